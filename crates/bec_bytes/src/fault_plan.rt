@@ -4,7 +4,7 @@ ghost use Rattle.bec_bytes.specs.Causes.{one_more, faults_after};
 use crate::failed::Failed;
 
 /// Which calls of an object in memory are to fail, and how many it had.
-#[derive(Debug, Drop)]
+#[derive(Drop)]
 pub struct FaultPlan {
     /// The numbers of the calls that are to fail, counted from 1.
     pub failing: Vec<u32>,

@@ -10,7 +10,7 @@ use crate::source::Source;
 use std::marker::Model;
 
 /// A source of bytes in memory that never fails. A contract sees it as the bytes that are left.
-#[derive(Debug, Drop)]
+#[derive(Drop)]
 pub struct PlainSource {
     bytes: Vec<u8>,
     place: usize,

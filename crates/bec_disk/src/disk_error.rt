@@ -6,7 +6,7 @@ use std::alloc::AllocError;
 use thiserror::Error;
 
 /// Why a call that uses a disk and takes memory failed.
-#[derive(Clone, Copy, Debug, PartialEq, Eq, Error)]
+#[derive(Clone, Copy, Debug, Error)]
 pub enum DiskError {
     /// A call of the disk failed, and the disk has counted the fault.
     #[error("a disk failed")]

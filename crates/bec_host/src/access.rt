@@ -6,7 +6,7 @@ use std::env;
 const USUAL_WAIT: u32 = 5;
 
 /// How parts are opened.
-#[derive(Clone, Copy, PartialEq, Eq)]
+#[derive(Clone, Copy)]
 pub enum Access {
     /// For reading alone: nothing is locked, made or written.
     Reading,

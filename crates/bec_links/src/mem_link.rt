@@ -12,7 +12,7 @@ use std::alloc::Global;
 use std::marker::Model;
 
 /// A link in memory, some of whose calls fail, for tests of what a fault does.
-#[derive(Debug, Drop)]
+#[derive(Drop)]
 pub struct MemLink {
     coming: PlainSource,
     bytes: Vec<u8>,

@@ -16,7 +16,7 @@ use std::vec::IntoIter;
 
 /// A net in memory, some of whose calls fail, for tests of what a fault does. It hands its links out
 /// in order, to `accept` and `dial` alike, and keeps those that come back.
-#[derive(Debug, Drop)]
+#[derive(Drop)]
 pub struct MemNet {
     /// The links that are still to come.
     coming: IntoIter<MemLink, Global>,

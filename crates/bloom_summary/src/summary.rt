@@ -14,7 +14,7 @@ fn are_bytes(_bytes: &[u8])
 {}
 
 /// A summary of update ids. A contract sees its bytes, of which there are at most [`MAX_SUMMARY_BYTES`].
-#[derive(Debug, Drop)]
+#[derive(Drop)]
 pub struct Summary {
     bytes: Vec<u8>,
 }

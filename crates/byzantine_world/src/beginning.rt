@@ -61,13 +61,11 @@ pub(crate) fn sites_of(
     ensures many { IfOk result (λ sites. length sites.items ≡ count) }
     ensures refused { IfErr result (λ why. IsWorldCause is_luhn text.now count why) }
 {
-    let mut sites = Vec::new(alloc);
+    let mut sites = Vec::with_capacity(alloc, count as usize)?;
     'sites: for replica in 0..count {
         let node = node_of(replica as u8);
         let site = Site::create(alloc, node, text, types, words, count as usize)?;
-        if sites.push(site).is_err() {
-            return Err(WorldFault::Memory);
-        }
+        sites.push_reserved(site);
     }
     Ok(sites)
 }
@@ -79,7 +77,7 @@ pub(crate) fn no_talks(alloc: Global) -> Result<Vec<Option<Talk>>, AllocError>
 {
     let mut talks = Vec::with_capacity(alloc, SESSIONS)?;
     'talks: for _ in 0..SESSIONS {
-        talks.push(None)?;
+        talks.push_reserved(None);
     }
     Ok(talks)
 }

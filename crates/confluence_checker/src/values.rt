@@ -7,7 +7,7 @@ ghost use Rattle.schema.specs.Columns.{target_of};
 ghost use Rattle.table_model.specs.Visible.{kept_of, table_of, bare_rules};
 
 use row_check::{Cmp, compare};
-use schema::{Action, CheckRule, Column, ColumnKind, MatchRule, Schema};
+use schema::{Action, Column, ColumnKind, Schema};
 use update_model::Value;
 
 /// Whether two values in columns compare so. A column that a row does not have is null.
@@ -45,28 +45,6 @@ pub(crate) fn columns_of(schema: &Schema, number: u8) -> &[Column]
 {
     if number < schema.tables() {
         schema.table(number).columns.as_slice()
-    } else {
-        &[]
-    }
-}
-
-/// Its `CHECK` lines.
-pub(crate) fn checks_of(schema: &Schema, number: u8) -> &[CheckRule]
-    ensures { result.now ≡ (table_of (bare_rules schema.now.tables) number).checks }
-{
-    if number < schema.tables() {
-        schema.table(number).checks.as_slice()
-    } else {
-        &[]
-    }
-}
-
-/// Its `MATCH` lines.
-pub(crate) fn matches_of(schema: &Schema, number: u8) -> &[MatchRule]
-    ensures { result.now ≡ (table_of (bare_rules schema.now.tables) number).matches }
-{
-    if number < schema.tables() {
-        schema.table(number).matches.as_slice()
     } else {
         &[]
     }

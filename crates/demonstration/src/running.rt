@@ -62,12 +62,10 @@ fn begun(alloc: Global, words: &mut Words) -> Result<Vec<Author>, AllocError>
     one_schema();
     text_declares_tables();
     let text = declared_text();
-    let mut authors = Vec::new(alloc);
+    let mut authors = Vec::with_capacity(alloc, AUTHORS as usize)?;
     'authors: for number in 0..AUTHORS {
         let author = Author::create(alloc, number as u8, text, words)?;
-        if authors.push(author).is_err() {
-            return Err(AllocError);
-        }
+        authors.push_reserved(author);
     }
     Ok(authors)
 }

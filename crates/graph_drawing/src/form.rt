@@ -1,5 +1,5 @@
 /// In what a picture is written.
-#[derive(Clone, Copy, Debug, PartialEq, Eq)]
+#[derive(Clone, Copy)]
 pub enum Form {
     /// As SVG, with every place.
     Svg,

@@ -1,7 +1,7 @@
 use update_model::Node;
 
 /// An update and how deep it lies.
-#[derive(Debug, Drop)]
+#[derive(Drop)]
 pub struct Placed {
     /// One more than the greatest depth of its predecessors.
     pub depth: u32,

@@ -1,7 +1,7 @@
 use crate::Refusal;
 
 /// A member that a graph did not take, handed back, and why.
-#[derive(Debug, Drop)]
+#[derive(Drop)]
 pub struct Refused<M> {
     /// Why it was not taken.
     pub why: Refusal,

@@ -1,7 +1,7 @@
 use update_model::{AuthorKey, UpdateId};
 
 /// A one-time key that signed two messages, and two updates that show it.
-#[derive(Clone, Copy, PartialEq, Eq)]
+#[derive(Clone, Copy)]
 pub struct Doubled {
     /// The author's key.
     pub key: AuthorKey,

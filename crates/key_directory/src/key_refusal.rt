@@ -3,7 +3,7 @@ use key_index::KeyFaultKind;
 use thiserror::Error;
 
 /// Why the key of a directory is not opened.
-#[derive(Clone, Copy, Debug, PartialEq, Eq, Error)]
+#[derive(Clone, Copy, Debug, Error)]
 pub enum KeyRefusal {
     /// There is no part Key, or it is absent.
     #[error("there is no key")]

@@ -3,7 +3,7 @@ use std::fmt;
 use thiserror::Error;
 
 /// Why a key is not opened.
-#[derive(Clone, Copy, Debug, PartialEq, Eq, Error)]
+#[derive(Clone, Copy, Debug, Error)]
 pub enum KeyFaultKind {
     /// A call of one of the disks failed.
     #[error("a disk failed")]
@@ -38,7 +38,7 @@ impl<D> fmt::Debug for KeyFault<D> {
 }
 
 /// Why a key is not created.
-#[derive(Clone, Copy, Debug, PartialEq, Eq, Error)]
+#[derive(Clone, Copy, Debug, Error)]
 pub enum CreateKeyKind {
     /// A call of one of the disks failed.
     #[error("a disk failed")]

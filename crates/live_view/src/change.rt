@@ -13,7 +13,7 @@ use update_model::{RowName, UpdateId, Value, ValueList};
 
 /// What a view's answer lost and got. Both rise by the names of rows. Of a row whose values changed the old line went
 /// and the new one came.
-#[derive(Debug, Drop)]
+#[derive(Drop)]
 pub struct Change {
     /// The lines that are not in the new answer.
     pub went: LineList,

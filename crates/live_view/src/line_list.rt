@@ -4,7 +4,7 @@ use std::marker::Model;
 use update_model::ValueList;
 
 /// A list of lines, each of which has the values of a row. A contract sees it as the list of their values.
-#[derive(Debug, Drop)]
+#[derive(Drop)]
 pub struct LineList {
     lines: Vec<ValueList>,
 }

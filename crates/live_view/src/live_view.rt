@@ -24,7 +24,7 @@ use tuple_state::Tables;
 use update_model::ValueList;
 
 /// Why a query is not watched.
-#[derive(Clone, Copy, Debug, PartialEq, Eq, Error)]
+#[derive(Clone, Copy, Debug, Error)]
 pub enum WatchError {
     /// Its first column is not the name of the row, or it has keys of an order or a limit.
     #[error("the query is not named")]

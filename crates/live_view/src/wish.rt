@@ -59,7 +59,7 @@ impl<W: Wish, G: Wishes<W>> When<W, G> {
 }
 
 /// The relation of counts that add up to at least the parameter.
-#[derive(Debug, Drop)]
+#[derive(Drop)]
 pub struct AtLeast;
 
 impl Wish for AtLeast {

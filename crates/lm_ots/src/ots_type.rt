@@ -6,7 +6,7 @@ ghost use Rattle.lm_ots.specs.declared.ots_type.OtsType.{OtsType};
 
 /// An LM-OTS type with SHA-256 (RFC 8554, section 4.1), named by the bits of a digit: more bits
 /// make signatures shorter and chains longer.
-#[derive(Clone, Copy, PartialEq, Eq, Debug)]
+#[derive(Clone, Copy, Debug)]
 pub enum OtsType {
     /// `LMOTS_SHA256_N32_W1`
     W1,

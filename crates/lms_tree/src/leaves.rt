@@ -18,7 +18,7 @@ pub trait LeafGenerator {
 }
 
 /// Does its work on the thread that asks.
-#[derive(Clone, Copy, Debug)]
+#[derive(Clone, Copy)]
 pub struct OneThread;
 
 impl LeafGenerator for OneThread {

@@ -8,7 +8,7 @@ ghost use Rattle.lms_tree.specs.declared.lms_type.LmsType.{LmsType};
 use lm_ots::OtsType;
 
 /// An LMS type with SHA-256 (RFC 8554, section 5.1), named by the height of its trees.
-#[derive(Clone, Copy, PartialEq, Eq, Debug)]
+#[derive(Clone, Copy, Debug)]
 pub enum LmsType {
     /// `LMS_SHA256_M32_H5`: 32 signatures
     H5,

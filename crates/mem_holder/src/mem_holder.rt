@@ -8,7 +8,7 @@ use update_check::Checked;
 use update_model::DbRule;
 
 /// When a commit fails as if a disk did.
-#[derive(Clone, Copy, Debug, PartialEq, Eq)]
+#[derive(Clone, Copy)]
 pub(crate) enum Failing {
     /// None is to fail.
     Never,

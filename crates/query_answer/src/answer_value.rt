@@ -1,7 +1,7 @@
 use update_model::{ByteList, ValueList};
 
 /// An answer: the names of its columns, and its rows.
-#[derive(Debug, Drop)]
+#[derive(Drop)]
 pub struct Answer {
     /// The names of the columns, as they were asked for.
     pub columns: Vec<ByteList>,

@@ -6,7 +6,7 @@ use std::alloc::{AllocError, Global};
 use update_model::Value;
 
 /// What a row has somewhere: a value that is lent, or one that was made, as of a row's name.
-#[derive(Debug, Drop)]
+#[derive(Drop)]
 pub(crate) enum FoundValue<'a> {
     Lent(&'a Value),
     Made(Value),

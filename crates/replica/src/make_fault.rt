@@ -1,9 +1,10 @@
 use std::alloc::AllocError;
+use std::fmt;
 use thiserror::Error;
 use update_model::UpdateId;
 
 /// The disks that a replica writes when it makes an update.
-#[derive(Clone, Copy, Debug, PartialEq, Eq)]
+#[derive(Clone, Copy, PartialEq, Eq)]
 pub enum Side {
     /// A disk of the key.
     Key,
@@ -12,16 +13,16 @@ pub enum Side {
 }
 
 /// Why no update was made. Where there is more than one reason, it is the first in this order.
-#[derive(Clone, Copy, Debug, PartialEq, Eq, Error)]
+#[derive(Clone, Copy, PartialEq, Eq, Error)]
 pub enum MakeFault {
     /// The rule lists authors, and not the key.
     #[error("the author is not listed")]
     NotListed,
     /// There are so many heads, more than the 1,024 that an update may name.
-    #[error("there are {0} heads")]
+    #[error("there are too many heads")]
     TooManyHeads(u32),
     /// The update would not be valid: for this reason, at the operation with this number, from 0.
-    #[error("the update is not valid: reason {reason} at operation {operation}")]
+    #[error("the update is not valid")]
     Invalid {
         /// One of the constants of `table_model::reason`.
         reason: u8,
@@ -29,7 +30,7 @@ pub enum MakeFault {
         operation: u16,
     },
     /// The update would have so many bytes, more than the 262,144 that it may have.
-    #[error("the update has {0} bytes")]
+    #[error("the update is too long")]
     TooLong(u64),
     /// One more update would pass a limit of the store.
     #[error("the store is full")]
@@ -38,7 +39,7 @@ pub enum MakeFault {
     #[error("every one-time key is used")]
     Spent,
     /// The update that was signed has the id of one that is held, which takes colliding digests. The index stays used.
-    #[error("the id {0:?} is taken")]
+    #[error("the id is taken")]
     Taken(UpdateId),
     /// A call of this disk failed.
     #[error("a disk failed")]
@@ -46,6 +47,13 @@ pub enum MakeFault {
     /// Memory ran out. Where it ran out behind the signature, the index stays used.
     #[error("out of memory")]
     Memory,
+}
+
+/// What is shown to people too: the numbers stand in the fault itself.
+impl fmt::Debug for MakeFault {
+    fn fmt<W: fmt::Write>(&self, f: &mut fmt::Formatter<W>) -> fmt::Result {
+        fmt::Display::fmt(self, f)
+    }
 }
 
 impl From<AllocError> for MakeFault {

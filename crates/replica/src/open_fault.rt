@@ -3,7 +3,7 @@ use row_check::{Checks, Native, Relation};
 use thiserror::Error;
 
 /// Why a store is not opened.
-#[derive(Clone, Copy, Debug, PartialEq, Eq, Error)]
+#[derive(Clone, Copy, Debug, Error)]
 pub enum OpenKind {
     /// A call of one of the disks failed.
     #[error("a disk failed")]

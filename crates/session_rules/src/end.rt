@@ -1,7 +1,7 @@
 use crate::PeerFault;
 
 /// How a session ended.
-#[derive(Clone, Copy, Debug, PartialEq, Eq)]
+#[derive(Clone, Copy)]
 pub enum End {
     /// Both ends have said that they hold all that the other held when the session began.
     Done,

@@ -1,7 +1,7 @@
 use update_model::UpdateId;
 
 /// What a peer's frames show.
-#[derive(Clone, Copy, Debug, PartialEq, Eq)]
+#[derive(Clone, Copy)]
 pub enum PeerFault {
     /// Bytes that are no frame. They begin at this place of the stream, counted in bytes.
     BadFrame(u64),

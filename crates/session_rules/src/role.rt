@@ -1,5 +1,5 @@
 /// Which end of a session it is.
-#[derive(Clone, Copy, Debug, PartialEq, Eq)]
+#[derive(Clone, Copy)]
 pub enum Role {
     /// The end that began it, whose Hello is turn 0.
     Initiator,

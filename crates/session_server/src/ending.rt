@@ -1,7 +1,7 @@
 use session_rules::PeerFault;
 
 /// How a session over a link ended.
-#[derive(Clone, Copy, Debug, PartialEq, Eq)]
+#[derive(Clone, Copy)]
 pub enum Ending {
     /// Both ends have said that they hold all that the other held when the session began.
     Done,

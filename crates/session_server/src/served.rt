@@ -6,7 +6,7 @@ use std::alloc::Global;
 use update_model::IdList;
 
 /// What a session over a link came to.
-#[derive(Debug, Drop)]
+#[derive(Drop)]
 pub struct Served {
     /// How it ended.
     pub ending: Ending,

@@ -8,7 +8,7 @@ use shared_replica::Pass;
 use std::marker::Model;
 
 /// A list of what sessions came to. A contract sees it as the list of its items.
-#[derive(Debug, Drop)]
+#[derive(Drop)]
 pub struct ServedList {
     sessions: Vec<Served>,
 }

@@ -3,7 +3,7 @@ use key_directory::KeyRefusal;
 use thiserror::Error;
 
 /// Why a directory is not opened.
-#[derive(Clone, Copy, Debug, PartialEq, Eq, Error)]
+#[derive(Clone, Copy, Debug, Error)]
 pub enum OpenRefusal {
     /// Its store is not.
     #[error("{0}")]

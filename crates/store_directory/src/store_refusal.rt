@@ -3,7 +3,7 @@ use replica::OpenKind;
 use thiserror::Error;
 
 /// Why the store of a directory is not opened.
-#[derive(Clone, Copy, Debug, PartialEq, Eq, Error)]
+#[derive(Clone, Copy, Debug, Error)]
 pub enum StoreRefusal {
     /// There is no part Schema, or it is absent.
     #[error("there is no store")]

@@ -2,7 +2,7 @@ use std::alloc::AllocError;
 use thiserror::Error;
 
 /// What stands in a stream where a frame should begin is none.
-#[derive(Clone, Copy, Debug, PartialEq, Eq, Hash, Error)]
+#[derive(Clone, Copy, Debug, PartialEq, Eq, Error)]
 #[error("no frame at {place}")]
 pub struct FrameFault {
     /// Where it begins, in bytes from the first of the stream.
@@ -10,7 +10,7 @@ pub struct FrameFault {
 }
 
 /// Why a piece gave no frames.
-#[derive(Clone, Copy, Debug, PartialEq, Eq, Hash, Error)]
+#[derive(Clone, Copy, Debug, PartialEq, Eq, Error)]
 pub enum FeedError {
     /// What comes next in the stream is no frame.
     #[error("{0}")]

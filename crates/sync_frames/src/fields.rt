@@ -9,7 +9,7 @@ use std::alloc::{AllocError, AllocFailed};
 use update_model::UpdateId;
 
 /// Why a payload was not read.
-#[derive(Clone, Copy, Debug, Drop)]
+#[derive(Clone, Copy, Drop)]
 pub(crate) enum PayloadError {
     /// There was not enough memory.
     Memory,

@@ -13,7 +13,7 @@ use std::alloc::{AllocError, Global};
 use update_codec::UPDATE_LIMIT;
 
 /// What stands at the front of some bytes.
-#[derive(Debug, Drop)]
+#[derive(Drop)]
 pub(crate) enum FoundFrame {
     /// Less than a frame.
     Partial,
@@ -24,7 +24,7 @@ pub(crate) enum FoundFrame {
 }
 
 /// The frames at the front of some bytes.
-#[derive(Debug, Drop)]
+#[derive(Drop)]
 pub(crate) struct Front {
     /// What they say.
     pub(crate) frames: Vec<Frame>,

@@ -2,7 +2,7 @@ use crate::{Hello, Turn};
 use update_model::ByteList;
 
 /// A frame, and what it says.
-#[derive(Debug, Drop)]
+#[derive(Drop)]
 pub enum Frame {
     /// How the other end greets this one.
     Hello(Hello),

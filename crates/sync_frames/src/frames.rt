@@ -10,7 +10,7 @@ use std::marker::Model;
 /// since.
 ///
 /// It takes memory for the bytes of one frame, and for what a piece brings besides.
-#[derive(Debug, Drop)]
+#[derive(Drop)]
 pub struct Frames {
     /// What came since the last frame.
     rest: Vec<u8>,

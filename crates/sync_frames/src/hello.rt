@@ -11,7 +11,7 @@ use update_model::{ByteList, IdList, MAX_MEMBERS};
 ///
 /// Its type keeps that both lists of ids rise, and that there are no more than 131,072 heads, 4,096 old heads and
 /// 163,840 bytes of a filter.
-#[derive(Debug, Drop)]
+#[derive(Drop)]
 pub struct Hello {
     /// The id of the database.
     pub database: [u8; 32],
@@ -48,8 +48,6 @@ impl Model for Hello {
 }
 
 impl Hello {
-    ghost use Rattle.sync_frames.specs.Payload.{IsHello};
-
     /// A Hello of these parts.
     pub fn new(
         database: [u8; 32],
@@ -72,12 +70,5 @@ impl Hello {
             old,
             filter,
         }
-    }
-
-    /// Does nothing: callers learn here what the type keeps.
-    pub fn in_form(&self)
-        ensures { IsHello self.now }
-    {
-        let _heads = &self.heads;
     }
 }

@@ -10,7 +10,7 @@ use update_model::IdList;
 /// How a turn ends.
 ///
 /// Its type keeps that the ids rise, that there are no more than 4,096, and that there are none where all is held.
-#[derive(Debug, Drop)]
+#[derive(Drop)]
 pub struct Turn {
     /// Whether all heads of the other's Hello are held.
     pub have: bool,
@@ -29,8 +29,6 @@ impl Model for Turn {
 }
 
 impl Turn {
-    ghost use Rattle.sync_frames.specs.Payload.{IsTurn};
-
     /// A Turn that says that all is held, and asks for nothing.
     pub fn all_held(alloc: Global) -> Turn
         ensures { result ≡ record { have = true; needs = [] } }
@@ -48,12 +46,5 @@ impl Turn {
         ensures { result ≡ record { have = false; needs = needs } }
     {
         Turn { have: false, needs }
-    }
-
-    /// Does nothing: callers learn here what the type keeps.
-    pub fn in_form(&self)
-        ensures { IsTurn self.now }
-    {
-        let _needs = &self.needs;
     }
 }

@@ -4,7 +4,7 @@ use std::fmt;
 use update_codec::{CodecFault, DecodeError};
 
 /// Why bytes are no update of a database. Where there is more than one reason, it is the first in this order.
-#[derive(Clone, Copy, Debug, PartialEq, Eq, Hash)]
+#[derive(Clone, Copy, Debug, PartialEq, Eq)]
 pub enum CheckFault {
     /// The bytes spell no update, and this is their first fault.
     Codec(CodecFault),
@@ -35,7 +35,7 @@ impl fmt::Display for CheckFault {
 impl Error for CheckFault {}
 
 /// Why bytes were not taken.
-#[derive(Clone, Copy, Debug, PartialEq, Eq, Hash, thiserror::Error)]
+#[derive(Clone, Copy, Debug, thiserror::Error)]
 pub enum CheckError {
     /// The bytes are refused.
     #[error("{0}")]

@@ -4,7 +4,7 @@ use crate::Checked;
 use std::marker::Model;
 
 /// A list of checked updates. A contract sees it as the list of their bytes.
-#[derive(Debug, Drop)]
+#[derive(Drop)]
 pub struct CheckedList {
     updates: Vec<Checked>,
 }

@@ -15,7 +15,7 @@ use update_model::{AuthorKey, Body, DbRule, Member, Node, TextValue, UpdateId};
 /// A contract sees it as its bytes. What is kept beside them is said at [`Spelled`]: no operations, which
 /// [`Checked::body`] and [`Checked::node`] read again from the bytes, and no signature, which [`Checked::signature`]
 /// lends from them.
-#[derive(Debug, Drop)]
+#[derive(Drop)]
 pub struct Checked {
     spelled: Spelled,
 

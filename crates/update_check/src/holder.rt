@@ -15,7 +15,7 @@ use thiserror::Error;
 use update_model::{DbRule, IdList, UpdateId};
 
 /// What a batch added, and what of it waits for predecessors.
-#[derive(Debug, Drop)]
+#[derive(Drop)]
 pub struct Committed {
     /// The ids of what was added, in the order of arrival.
     pub added: IdList,
@@ -24,7 +24,7 @@ pub struct Committed {
 }
 
 /// Why nothing of a batch was added.
-#[derive(Clone, Copy, Debug, PartialEq, Eq, Error)]
+#[derive(Clone, Copy, Debug, Error)]
 pub enum CommitFault {
     /// What can be added would pass a limit.
     #[error("the store is full")]

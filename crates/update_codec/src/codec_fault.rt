@@ -2,7 +2,7 @@ use std::error::Error;
 use std::fmt;
 
 /// What is wrong with bytes that spell no update.
-#[derive(Clone, Copy, Debug, PartialEq, Eq, Hash)]
+#[derive(Clone, Copy, Debug, PartialEq, Eq)]
 pub enum CodecKind {
     /// The first byte is neither 1 nor 2.
     Version,
@@ -55,7 +55,7 @@ impl fmt::Display for CodecKind {
 }
 
 /// The first fault of bytes that spell no update.
-#[derive(Clone, Copy, Debug, PartialEq, Eq, Hash)]
+#[derive(Clone, Copy, Debug, PartialEq, Eq)]
 pub struct CodecFault {
     /// What is wrong.
     pub kind: CodecKind,

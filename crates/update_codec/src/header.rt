@@ -5,7 +5,7 @@ use std::alloc::{AllocError, Global};
 use update_model::{AuthorKey, Body, IdList, TextValue};
 
 /// What a body says beside its operations: what is often asked of an update that is kept.
-#[derive(Debug, Drop)]
+#[derive(Drop)]
 pub(crate) struct Header {
     /// The id of the database that the update belongs to.
     pub(crate) database: [u8; 32],

@@ -18,7 +18,7 @@ use update_model::{AuthorKey, Body, Member, TextValue, UpdateId, signature_len};
 /// kept a second time, so that it takes little more than twice the memory of its bytes. The operations are not, which
 /// would take many times their bytes: [`Spelled::body`] reads them again. Nor is the signature, which is lent from the
 /// bytes.
-#[derive(Debug, Drop)]
+#[derive(Drop)]
 pub struct Spelled {
     bytes: Vec<u8>,
     header: Header,

@@ -2,7 +2,7 @@ ghost use Rattle.std.specs.Prelude.{◌≡◌};
 ghost use Rattle.update_model.specs.Form.{IsKnownKey, signature_length};
 
 /// An author's public key: an LMS public key (RFC 8554, section 5.3).
-#[derive(Clone, Copy, Debug, PartialEq, Eq, PartialOrd, Ord, Hash)]
+#[derive(Clone, Copy, PartialEq, Eq, PartialOrd, Ord)]
 pub struct AuthorKey {
     /// The LMS type word: 5, 6 or 7, for trees of height 5, 10 or 15.
     pub lms: u32,

@@ -10,7 +10,7 @@ use std::marker::Model;
 /// Every value is in form: predecessors rise strictly, there are at most 1,024 of them, the key's two types are
 /// known ones, a note has at most 256 bytes, and there are at most 256 operations with a note and 64 without one, of
 /// which [`crate::check_ops`] is true.
-#[derive(Debug, Drop)]
+#[derive(Drop)]
 pub struct Body {
     /// The id of the database that the update belongs to.
     pub database: [u8; 32],

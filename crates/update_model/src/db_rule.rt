@@ -6,7 +6,7 @@ use std::alloc::{AllocError, Global};
 use std::marker::Model;
 
 /// Which updates a database takes: those that name it and whose author is listed.
-#[derive(Debug, Drop)]
+#[derive(Drop)]
 pub struct DbRule {
     /// The id of the database.
     pub database: [u8; 32],

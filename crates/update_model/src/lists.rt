@@ -9,7 +9,7 @@ use std::alloc::{AllocError, Global};
 use std::marker::Model;
 
 /// A list of update ids.
-#[derive(Debug, Drop)]
+#[derive(Drop)]
 pub struct IdList {
     ids: Vec<UpdateId>,
 }
@@ -54,7 +54,7 @@ impl IdList {
 }
 
 /// A list of bytes.
-#[derive(Debug, Drop)]
+#[derive(Drop)]
 pub struct ByteList {
     bytes: Vec<u8>,
 }
@@ -99,7 +99,7 @@ impl ByteList {
 }
 
 /// A list of author keys.
-#[derive(Debug, Drop)]
+#[derive(Drop)]
 pub struct KeyList {
     keys: Vec<AuthorKey>,
 }
@@ -144,7 +144,7 @@ impl KeyList {
 }
 
 /// A list of positions, such as those of members in arrival order, from 0.
-#[derive(Debug, Drop)]
+#[derive(Drop)]
 pub struct PositionList {
     positions: Vec<u32>,
 }

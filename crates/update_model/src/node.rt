@@ -9,7 +9,7 @@ use std::marker::Model;
 ///
 /// Its type keeps that there are at most 256 operations, and nothing else: a node may be made directly, of an
 /// update that nobody signed.
-#[derive(Debug, Drop)]
+#[derive(Drop)]
 pub struct Node {
     /// The update's id.
     pub id: UpdateId,

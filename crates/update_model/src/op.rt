@@ -4,7 +4,7 @@ use crate::{RowName, ValueList};
 use std::alloc::{AllocError, Global};
 
 /// What an update does to one row.
-#[derive(Debug, Drop)]
+#[derive(Drop)]
 pub enum Op {
     /// Inserts a row, whose name is the update's id and the number of this operation.
     Insert {

@@ -6,7 +6,7 @@ use std::alloc::{AllocError, Global};
 use std::marker::Model;
 
 /// A list of operations, which number from 0. A contract sees the list of its items.
-#[derive(Debug, Drop)]
+#[derive(Drop)]
 pub struct OpList {
     ops: Vec<Op>,
 }

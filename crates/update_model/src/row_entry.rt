@@ -4,7 +4,7 @@ use crate::{AuthorKey, ValueList};
 use std::alloc::{AllocError, Global};
 
 /// A row as a table holds it: where it stands, who inserted it, and its values.
-#[derive(Debug, Drop)]
+#[derive(Drop)]
 pub struct RowEntry {
     /// The number of the table.
     pub table: u8,

@@ -17,7 +17,7 @@ pub fn check_value_text(bytes: &[u8]) -> bool
 }
 
 /// A text in a row, or a note: at most 1,024 bytes of UTF-8, which a contract sees as the list of its bytes.
-#[derive(Debug, Drop)]
+#[derive(Drop)]
 pub struct TextValue {
     bytes: Vec<u8>,
 }

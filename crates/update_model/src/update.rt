@@ -5,7 +5,7 @@ use std::alloc::{AllocError, Global};
 use std::marker::Model;
 
 /// An update: a body and its author's signature, which has as many bytes as the author's key asks for.
-#[derive(Debug, Drop)]
+#[derive(Drop)]
 pub struct Update {
     /// What is signed.
     pub body: Body,

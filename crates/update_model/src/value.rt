@@ -4,7 +4,7 @@ use crate::{RowName, TextValue};
 use std::alloc::{AllocError, Global};
 
 /// A value in a row, or one that an operation gives to a row.
-#[derive(Debug, Drop)]
+#[derive(Drop)]
 pub enum Value {
     /// No value.
     Null,

@@ -7,7 +7,7 @@ use std::marker::Model;
 
 /// A list of values, such as those of a row in the order of its table's columns. A contract sees the list of its
 /// items.
-#[derive(Debug, Drop)]
+#[derive(Drop)]
 pub struct ValueList {
     values: Vec<Value>,
 }
