@@ -120,6 +120,13 @@ impl<L: Relation, C: Checks<L>> History<L, C> {
         self.graph.tail(from)
     }
 
+    /// The updates as a graph.
+    pub fn graph(&self) -> &Graph<Checked>
+        ensures { result.now ≡ self.now.members }
+    {
+        &self.graph
+    }
+
     /// How many bytes the updates have together.
     pub fn byte_len(&self) -> u64
         ensures { result ≡ byte_count (map entry_of self.now.members) }

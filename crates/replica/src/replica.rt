@@ -24,6 +24,7 @@ ghost use Rattle.replica.specs.declared.make_fault.Side.TheVariants.{Key as KeyS
 
 use crate::make_fault::{MakeFault, Side};
 use bec_disk::{Disk, MemDisk};
+use hash_graph::Graph;
 use history::History;
 use key_index::KeyStore;
 use row_check::{Checks, Native, Relation};
@@ -109,6 +110,13 @@ impl<D: Disk, L: Relation, C: Checks<L>> Replica<D, L, C> {
             result.now }
     {
         self.history.tables()
+    }
+
+    /// The updates as a graph.
+    pub fn graph(&self) -> &Graph<Checked>
+        ensures { result.now ≡ self.now.history.members }
+    {
+        self.history.graph()
     }
 
     /// The update at a position, counted from 0 in the order of arrival.
