@@ -2,7 +2,7 @@ use Rattle.std.proofs.Common.{subst}
 use Rattle.bec_disk.specs.Replay.{state_of}
 use Rattle.bec_disk.specs.Shelf.{PutsBack}
 use Rattle.bec_disk.specs.Shelved.{MemShelfState, shelf_of}
-use Rattle.tests_of_commands.proofs.stopping.StoppingShelfShelf.put_back.Goals as goal
+use Rattle.tests_of_stores.proofs.stopping.StoppingShelfShelf.put_back.Goals as goal
 
 pub returns-clause-puts : goal.returns-clause-puts
 returns-clause-puts c place is =

@@ -10,14 +10,16 @@ use bec_disk::{DiskFault, MemDisk, MemShelf, Part, Shelf};
 use std::alloc::{AllocError, Global};
 use std::marker::Model;
 
+/// A part of a directory.
+pub type Place = (&'static str, Part);
+
 /// A shelf in memory. The disk that it hands out as one certain part of a directory passes so many calls, and fails
 /// every later one.
 #[derive(Drop)]
 pub struct StoppingShelf {
     alloc: Global,
     shelf: MemShelf,
-    dir: &'static str,
-    part: Part,
+    place: Place,
     calls: u64,
 }
 
@@ -31,20 +33,13 @@ impl Model for StoppingShelf {
 
 impl StoppingShelf {
     /// Over a shelf, for this part of a directory.
-    pub fn over(
-        alloc: Global,
-        shelf: MemShelf,
-        dir: &'static str,
-        part: Part,
-        calls: u64,
-    ) -> StoppingShelf
+    pub fn over(alloc: Global, shelf: MemShelf, place: Place, calls: u64) -> StoppingShelf
         ensures { result ≡ shelf }
     {
         StoppingShelf {
             alloc,
             shelf,
-            dir,
-            part,
+            place,
             calls,
         }
     }
@@ -62,7 +57,7 @@ impl StoppingShelf {
         ensures state { state_of disk.new ≡ state_of disk.old }
         ensures faults { disk.new.plan.faults ≡ disk.old.plan.faults }
     {
-        if part == self.part && dir == self.dir {
+        if part == self.place.1 && dir == self.place.0 {
             disk.plan_calls(Vec::new(self.alloc), self.calls);
         }
     }

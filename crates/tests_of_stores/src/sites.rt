@@ -1,3 +1,5 @@
+//! One replica of a world over disks in memory that stop: what it answers, and what it has when it is up again.
+
 use lm_ots::OtsType;
 use lms_tree::{KeyTypes, LmsType};
 use numbered_words::Words;
