@@ -4,7 +4,7 @@ ghost use Rattle.bec_disk.specs.Shelved.{shelf_of};
 ghost use Rattle.key_directory.specs.Parts.{IsHome};
 
 use crate::runs::{Run, Said, answer, begins, crashed};
-use crate::seals::{DRAW, SEAL, draws_again, seals_again};
+use crate::seals::{DRAW, SEAL, drawn_key, draws_again, seals_again};
 use crate::stopping::Place;
 use bec_disk::{MemShelf, Part};
 use std::alloc::{AllocError, Global};
@@ -89,6 +89,10 @@ const ROWS: &[Row] = &[
     (APART, MERGE, ("B", Part::Schema), United),
     (APART, MERGE, ("B", Part::Updates), United),
     (APART, MERGE, ("B", Part::Peers), United),
+];
+
+/// The same of keys for seals.
+const SEAL_ROWS: &[Row] = &[
     (&[], DRAW, ("A", Part::Key), Drawn),
     (&[], DRAW, ("A", Part::Used), Drawn),
     (&[DRAW], SEAL, ("A", Part::Key), Sealed),
@@ -148,39 +152,48 @@ fn is_there(alloc: Global, left: &mut MemShelf, row: &Row, said: &Said) -> Resul
     Ok(is_right(row.3, said, &heads, &again))
 }
 
-/// Whether what a crash left is as the row says, where the command answered this.
-fn goes_on(alloc: Global, left: &mut MemShelf, row: &Row, said: &Said) -> Result<bool, AllocError>
+/// Whether what a crash left is as the row says, where the command answered this. The key is the one that seals.
+fn goes_on(
+    alloc: Global,
+    left: &mut MemShelf,
+    row: &Row,
+    key: &[u8],
+    said: &Said,
+) -> Result<bool, AllocError>
     requires home { IsHome (shelf_of left.old) }
 {
     match row.3 {
         United => unites(alloc, left),
-        Drawn => draws_again(alloc, left, said),
-        Sealed => seals_again(alloc, left, said),
+        Drawn => draws_again(alloc, left, key, said),
+        Sealed => seals_again(alloc, left, key, said),
         _ => is_there(alloc, left, row, said),
     }
 }
 
-/// Whether nothing is lost where a disk stops after so many calls and a crash leaves what a choice says.
+/// Whether nothing is lost in a run of this number, which is of so many calls after which the disk stops, and of the
+/// choice by which a crash leaves something.
 fn survives(
     alloc: Global,
     base: &MemShelf,
     row: &Row,
-    calls: u64,
-    choice: u64,
+    key: &[u8],
+    number: u64,
 ) -> Result<bool, AllocError>
     requires { IsHome (shelf_of base.now) }
 {
+    let (calls, choice) = (number / CHOICES, number % CHOICES);
     let (said, mut left) = crashed(alloc, base, (row.2, calls, choice), &row.1)?;
-    Ok(is_stopped(calls, said.status) && goes_on(alloc, &mut left, row, &said)?)
+    Ok(is_stopped(calls, said.status) && goes_on(alloc, &mut left, row, key, &said)?)
 }
 
 /// How often a crash loses something.
 fn losses(alloc: Global, base: &MemShelf, row: &Row) -> Result<u64, AllocError>
     requires { IsHome (shelf_of base.now) }
 {
+    let key = drawn_key(alloc)?;
     let mut losses: u64 = 0;
     'runs: for number in 0..CALLS * CHOICES {
-        let survives = survives(alloc, base, row, number / CHOICES, number % CHOICES)?;
+        let survives = survives(alloc, base, row, &key, number)?;
         losses = losses.saturating_add(u64::from(!survives));
     }
     Ok(losses)
@@ -198,6 +211,14 @@ fn losses_of(alloc: Global, row: &Row) -> Result<Option<u64>, AllocError> {
 #[test]
 fn a_crash_leaves_what_was_acknowledged(rt: HostRuntime) -> Result<(), Fail> {
     for row in ROWS {
+        assert_eq!(rt; losses_of(rt.alloc(), row)?, Some(0), "{} at {}", row.1.0, row.2.0);
+    }
+    Ok(())
+}
+
+#[test]
+fn a_crash_leaves_a_key_that_seals_by_other_indices(rt: HostRuntime) -> Result<(), Fail> {
+    for row in SEAL_ROWS {
         assert_eq!(rt; losses_of(rt.alloc(), row)?, Some(0), "{} at {}", row.1.0, row.2.0);
     }
     Ok(())

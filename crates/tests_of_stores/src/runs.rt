@@ -7,7 +7,7 @@ ghost use Rattle.key_directory.specs.Parts.{IsHome};
 use crate::stopping::{Place, StoppingShelf, left_of};
 use bec_bytes::{MemSink, MemSource};
 use bec_disk::{MemShelf, Shelf};
-use bec_node::{Outside, run_alone};
+use bec_node::{Outside, run_beside};
 use rand_pcg::Pcg32;
 use record_check::OneThread;
 use std::alloc::{AllocError, Global};
@@ -59,7 +59,7 @@ fn answer_over<H: Shelf>(
 {
     let words = words(alloc, line)?;
     let mut out = MemSink::new(alloc, Vec::new(alloc));
-    let status = run_alone(&OneThread, alloc, &words, outside, &mut out);
+    let status = run_beside(&OneThread, alloc, &words, outside, &mut out);
     let bytes = out.bytes().to_vec(alloc)?;
     Ok(Said { status, bytes })
 }

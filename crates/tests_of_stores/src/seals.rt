@@ -17,10 +17,14 @@ pub const SEAL: Run<'static> = ("seal A", b"one", 1);
 /// Seals another, and draws other bytes for it.
 const AGAIN: Run<'static> = ("seal A", b"two", 2);
 
-/// Whether a run printed a seal of this input by the key that is drawn.
-fn is_good(alloc: Global, sealed: &Said, input: &[u8]) -> Result<bool, AllocError> {
-    let key = answer(alloc, &mut MemShelf::new(alloc), &DRAW)?;
-    let (Ok(key), Ok(seal)) = (str::from_utf8(&key.bytes), str::from_utf8(&sealed.bytes)) else {
+/// The public key that is drawn, as it is printed.
+pub fn drawn_key(alloc: Global) -> Result<Vec<u8>, AllocError> {
+    Ok(answer(alloc, &mut MemShelf::new(alloc), &DRAW)?.bytes)
+}
+
+/// Whether a run printed a seal of this input by a key.
+fn is_good(alloc: Global, key: &[u8], sealed: &Said, input: &[u8]) -> Result<bool, AllocError> {
+    let (Ok(key), Ok(seal)) = (str::from_utf8(key), str::from_utf8(&sealed.bytes)) else {
         return Ok(false);
     };
     let line = format!(in alloc; "unseal {key} {seal}")?;
@@ -52,23 +56,33 @@ fn are_apart(one: &[u8], other: &[u8]) -> bool {
 }
 
 /// Whether a key that was drawn, or was not, may be drawn again and seals.
-pub fn draws_again(alloc: Global, left: &mut MemShelf, first: &Said) -> Result<bool, AllocError>
+pub fn draws_again(
+    alloc: Global,
+    left: &mut MemShelf,
+    key: &[u8],
+    first: &Said,
+) -> Result<bool, AllocError>
     requires home { IsHome (shelf_of left.old) }
 {
     let again = answer(alloc, left, &DRAW)?;
     let sealed = answer(alloc, left, &SEAL)?;
     let is_drawn = again.status == 8 || (again.status == 0 && first.status != 0);
-    Ok(is_drawn && is_good(alloc, &sealed, SEAL.1)?)
+    Ok(is_drawn && is_good(alloc, key, &sealed, SEAL.1)?)
 }
 
 /// Whether the next seal is good, and so is the first, where there is one, by other indices.
-pub fn seals_again(alloc: Global, left: &mut MemShelf, first: &Said) -> Result<bool, AllocError>
+pub fn seals_again(
+    alloc: Global,
+    left: &mut MemShelf,
+    key: &[u8],
+    first: &Said,
+) -> Result<bool, AllocError>
     requires home { IsHome (shelf_of left.old) }
 {
     let next = answer(alloc, left, &AGAIN)?;
     let is_first = first.status != 0
-        || (are_apart(&first.bytes, &next.bytes) && is_good(alloc, first, SEAL.1)?);
-    Ok(is_first && is_good(alloc, &next, AGAIN.1)?)
+        || (are_apart(&first.bytes, &next.bytes) && is_good(alloc, key, first, SEAL.1)?);
+    Ok(is_first && is_good(alloc, key, &next, AGAIN.1)?)
 }
 
 /// Lets a disk stand as the record of a key's used indices.
@@ -100,8 +114,9 @@ fn passed_over(alloc: Global, shelf: &mut MemShelf) -> Result<Option<Said>, Allo
     let stop = (("A.1", Part::Peers), 0, 1);
     let (stopped, mut left) = crashed(alloc, shelf, stop, &SEAL)?;
     let sealed = answer(alloc, &mut left, &AGAIN)?;
+    let key = drawn_key(alloc)?;
     match stopped.status {
-        3 if is_good(alloc, &sealed, AGAIN.1)? => Ok(Some(sealed)),
+        3 if is_good(alloc, &key, &sealed, AGAIN.1)? => Ok(Some(sealed)),
         _ => Ok(None),
     }
 }
