@@ -91,10 +91,14 @@ const ROWS: &[Row] = &[
     (APART, MERGE, ("B", Part::Peers), United),
 ];
 
-/// The same of keys for seals.
-const SEAL_ROWS: &[Row] = &[
+/// The same of drawing a key for seals.
+const DRAW_ROWS: &[Row] = &[
     (&[], DRAW, ("A", Part::Key), Drawn),
     (&[], DRAW, ("A", Part::Used), Drawn),
+];
+
+/// The same of a seal that draws the first lower key.
+const SEAL_ROWS: &[Row] = &[
     (&[DRAW], SEAL, ("A", Part::Key), Sealed),
     (&[DRAW], SEAL, ("A", Part::Used), Sealed),
     (&[DRAW], SEAL, ("A.0", Part::Key), Sealed),
@@ -217,7 +221,15 @@ fn a_crash_leaves_what_was_acknowledged(rt: HostRuntime) -> Result<(), Fail> {
 }
 
 #[test]
-fn a_crash_leaves_a_key_that_seals_by_other_indices(rt: HostRuntime) -> Result<(), Fail> {
+fn a_crash_leaves_a_key_or_none(rt: HostRuntime) -> Result<(), Fail> {
+    for row in DRAW_ROWS {
+        assert_eq!(rt; losses_of(rt.alloc(), row)?, Some(0), "{} at {}", row.1.0, row.2.0);
+    }
+    Ok(())
+}
+
+#[test]
+fn a_crash_costs_an_index_at_most(rt: HostRuntime) -> Result<(), Fail> {
     for row in SEAL_ROWS {
         assert_eq!(rt; losses_of(rt.alloc(), row)?, Some(0), "{} at {}", row.1.0, row.2.0);
     }
