@@ -5,7 +5,7 @@ _bec() {
     if [ "$COMP_CWORD" -eq 1 ]; then
         offered="init keygen apply join set dump query watch heads notes export draw log show who diff status schema key csv page import clone merge sync serve check hsskey seal unseal audit confirm world demo help --help --version"
     elif [ "$command" = help ]; then
-        offered="init keygen apply join set dump query watch heads notes export draw log show who diff status schema key csv page import clone merge sync serve check hsskey seal unseal audit confirm world demo status"
+        offered="init keygen apply join set dump query watch heads notes export draw log show who diff status schema key csv page import clone merge sync serve check hsskey seal unseal audit confirm world demo status tutorial commands schemas queries confluence tables operating worlds seals docs/AUDIT.md glossary releases"
     else
         case $command,${COMP_WORDS[COMP_CWORD - 1]} in
         keygen,--height) offered="5 10 15" ;;
