@@ -1,9 +1,9 @@
 #!/usr/bin/env python3
 """Tries how the launcher builds, with an `rt` that proves nothing: bench/launcher_builds.py
 
-A small tree has the launcher and four crates. Its rt prints and makes what the kit's one does, in as many seconds a crate as it is told. Tried are: a first
-build, what is taken as built and what is not (after rt ci at the top, too), `check` answered before the rest, builds side by side, interrupts and kills at
-any time, a build that fails, and kept work. It takes about a minute.
+A small tree has the launcher and five crates. Its rt prints and makes what the kit's one does, in as many seconds a crate as it is told. Tried are: a first
+build, what is taken as built and what is not (after rt ci at the top, too), interrupts, sources that change meanwhile, builds side by side, and one that
+fails. It takes about half a minute.
 """
 import glob
 import os
@@ -54,17 +54,11 @@ def ci():
     print(f"{len(rows) - len(failed)} passed, {len(failed)} failed")
     return bool(failed)
 
-def run():
-    name = os.path.basename(os.getcwd())
-    made(f"out/{name}", [open("src/main.rt").read()])
-    open(f"out/{name}.stamp", "w").close()
-    return 0
-
 with open(os.environ["RUNS"], "a") as runs:
     runs.write(f"{sys.argv[1]} {os.getpid()}\n")
-sys.exit(ci() if sys.argv[1] == "ci" else run() if sys.argv[1] == "run" else 0)
+sys.exit(ci() if sys.argv[1] == "ci" else 0)
 '''
-CRATES = "low: thiserror\nbec_check: low\nhigh: low\nbec: high low\nbec_look: high\ntests_of_low: low\n"
+CRATES = "low: thiserror\nhigh: low\nbec: high low\nbec_look: high\ntests_of_low: low\n"
 
 
 class Tree:
@@ -113,24 +107,13 @@ class Tree:
     def gate(self, slow=""):
         return subprocess.Popen(["rt", "ci"], cwd=self.top, env={**self.env, "SLOW": slow}, stdout=subprocess.DEVNULL)
 
-    def runs(self, verb="ci"):
-        """How often rt was called so."""
+    def runs(self):
+        """How often `rt ci` was called."""
         with open(self.runs_file, encoding="ascii") as file:
-            return [line.split()[0] for line in file].count(verb)
+            return [line.split()[0] for line in file].count("ci")
 
     def rooms(self):
-        return glob.glob(os.path.join(self.cache, "bec", "build-*"))
-
-    def builder(self):
-        """The process of the build that runs."""
-        return self.soon(lambda: int(self.read("lock") or 0))
-
-    def read(self, name):
-        files = glob.glob(os.path.join(self.cache, "bec", "build-*", name))
-        if not files:
-            return ""
-        with open(files[0], encoding="utf-8") as file:
-            return file.read()
+        return glob.glob(os.path.join(self.cache, "bec", "build.*"))
 
     @staticmethod
     def soon(what, seconds=20):
@@ -156,10 +139,10 @@ def is_rt(process):
 
 
 def built(tree, note):
-    """The first build makes all programs once, and what it made counts as long as the contents are the same."""
+    """The first build makes both programs once, and what it made counts as long as the contents are the same."""
     status, out, said = tree.call("heads")
-    note(f"a first build: {status} {out} {said}", (status, out) == (0, "") and "proving and building bec, bec_look, bec_check by" in said and "5 of 5 crates" in said)
-    note("the programs", all(os.path.exists(tree.path(name)) for name in ("bec", "bec_look", "bec_check")))
+    note(f"a first build: {status} {out} {said}", (status, out) == (0, "") and "proving and building" in said and "bec: high is proved" in said)
+    note("the programs", all(os.path.exists(tree.path(name)) for name in ("bec", "bec_look")))
     note("a folder is left", tree.is_quiet())
     note("a second call", tree.call("heads") == (0, "", "") and tree.call("check") == (0, "confluent\n", "") and tree.runs() == 1)
     tree.write("crates/low/src/lib.rt", "one low", age=-10 ** 6)
@@ -192,89 +175,47 @@ def gated(tree, note):
     note("changed while rt ci ran", tree.call("heads")[0] == 0 and tree.runs() == runs + 3)
 
 
-def answered(tree, note):
-    """The small program answers `check` before the rest is built, and the build goes on; another command waits for it, and none is begun beside it."""
-    tree.write("crates/low/src/lib.rt", "five")
-    runs = tree.runs()
-    status, out, said = tree.call("check", slow="high bec bec_look")
-    note(f"a check before the rest: {status} {out} {said}", (status, out) == (0, "confluent\n") and "bec_check answers" in said and "in the background" in said)
-    status, out, said = tree.call("check")
-    note(f"a second check: {status} {out} {said}", (status, out) == (0, "confluent\n") and "in the background" in said)
-    status, _, said = tree.call("heads")
-    note(f"a command that waits: {status} {said}", status == 0 and "another build of this folder runs" in said and tree.runs() == runs + 1 and tree.is_quiet())
-    tree.write("crates/high/src/new.rt", "newer")
-    status, out, said = tree.call("check")
-    note(f"a check where only the rest has changed: {said}", (status, out) == (0, "confluent\n") and "bec is not built" in said and tree.runs() == runs + 1)
+def ended(tree, note):
+    """A build that is ended leaves nothing behind, and the next one begins; one whose sources change is said to be of others."""
+    for number in (signal.SIGINT, signal.SIGTERM, signal.SIGHUP):
+        tree.write("crates/low/src/lib.rt", f"seven {number}")
+        runs, alone = tree.runs(), tree.begin("heads", slow="low")
+        tree.soon(lambda runs=runs: tree.runs() > runs)
+        os.killpg(alone.pid, number)
+        note(f"signal {number}: {alone.wait(60)}", alone.returncode != 0)
+        note(f"signal {number} leaves something", tree.is_quiet())
+    note("a build after that", tree.call("heads")[0] == 0 and tree.is_quiet())
+    tree.write("crates/low/src/lib.rt", "nine")
+    runs, waiting = tree.runs(), tree.begin("heads", slow="high")
+    tree.soon(lambda: tree.runs() > runs)
+    tree.write("crates/high/src/new.rt", "newest")
+    said = waiting.communicate(timeout=60)[1]
+    note(f"sources that change meanwhile: {waiting.returncode} {said}", waiting.returncode == 127 and "the sources have changed" in said)
+    note("the next one", tree.call("heads")[0] == 0 and tree.is_quiet())
 
 
 def side_by_side(tree, note):
-    """Two that wait for one build; one of them is interrupted; the other one is too."""
+    """Two builds at once do not disturb each other."""
     tree.write("crates/low/src/lib.rt", "six")
-    runs, first = tree.runs(), tree.begin("heads", slow="high bec")
-    tree.builder()
-    second = tree.begin("heads")
-    time.sleep(1)
-    os.killpg(first.pid, signal.SIGINT)
-    note(f"an interrupt: {first.wait(60)}", first.returncode in (130, -signal.SIGINT))
-    note("the other one goes on", second.wait(60) == 0 and tree.runs() == runs + 1 and tree.is_quiet())
-    for number in (signal.SIGINT, signal.SIGTERM, signal.SIGHUP, signal.SIGKILL):
-        tree.write("crates/low/src/lib.rt", f"seven {number}")
-        alone = tree.begin("heads", slow="low")
-        tree.builder()
-        os.killpg(alone.pid, number)
-        note(f"signal {number} to the only one: {alone.wait(60)}", alone.returncode != 0)
-        note(f"signal {number} leaves something", tree.is_quiet())
-    note("a build after that", tree.call("heads")[0] == 0 and tree.is_quiet())
-
-
-def ended(tree, note):
-    """A build that is killed, that is told to end, and whose sources change: the next one begins again."""
-    for number, word in ((signal.SIGKILL, "before its time"), (signal.SIGTERM, "was stopped")):
-        tree.write("crates/low/src/lib.rt", f"eight {number}")
-        waiting = tree.begin("heads", slow="low high")
-        tree.builder()
-        tree.soon(lambda: tree.read("made"))
-        os.kill(tree.builder(), number)
-        said = waiting.communicate(timeout=60)[1]
-        note(f"a build that gets signal {number}: {waiting.returncode} {said}", waiting.returncode == 127 and word in said)
-        note("the next one", tree.call("heads")[0] == 0 and tree.is_quiet())
-    tree.write("crates/low/src/lib.rt", "nine")
-    runs, waiting = tree.runs(), tree.begin("heads", slow="high")
-    tree.soon(lambda: tree.read("made"))
-    tree.write("crates/high/src/new.rt", "newest")
-    status, _, said = tree.call("heads")
-    note(f"a build of other sources: {said}", status == 0 and "sources that have changed" in said)
-    note("whoever waited for that one", waiting.wait(60) == 0 and tree.runs() == runs + 2 and tree.is_quiet())
-    waiting = tree.begin("heads", slow="high")
-    note("nothing to do", waiting.wait(60) == 0 and tree.runs() == runs + 2)
+    both = [tree.begin("heads", slow="high"), tree.begin("heads", slow="high")]
+    note(f"two at once: {[it.wait(60) for it in both]}", [it.returncode for it in both] == [0, 0] and tree.is_quiet())
+    note("after both", tree.call("heads") == (0, "", ""))
 
 
 def failing(tree, note):
-    """What cannot be proved is said; a program that does not stand on it is built."""
+    """What cannot be proved is said, and the program that stood there is not run."""
     tree.write("crates/bec/src/main.rt", "WRONG")
     status, out, said = tree.call("heads")
-    note(f"a build that fails: {status} {said}", (status, out) == (127, "") and "rt: bec NOT PROVED" in said and "1 failed" in said)
-    status, out, said = tree.call("check")
-    note(f"a check beside it: {said}", (status, out) == (0, "confluent\n"))
+    note(f"a build that fails: {status} {said}", (status, out) == (127, "") and "rt: bec NOT PROVED" in said and "the build failed" in said)
     tree.write("crates/bec/src/main.rt", "right")
     note("mended", tree.call("heads")[0] == 0 and tree.is_quiet())
-
-
-def kept(tree, note):
-    """Where the crates keep work, only what has changed is proved, by rt run."""
-    for name in ("low", "high", "bec"):
-        os.makedirs(os.path.join(tree.top, "crates", name, "out", "incremental"))
-    tree.write("crates/bec/src/main.rt", "ten")
-    runs = tree.runs()
-    note("kept work", tree.call("heads")[0] == 0 and (tree.runs(), tree.runs("run")) == (runs, 1))
-    note("after rt run", tree.call("heads") == (0, "", "") and tree.runs("run") == 1)
 
 
 def tried(note):
     """Tries all, and has each that is not as it is to be noted."""
     with tempfile.TemporaryDirectory() as folder:
         tree = Tree(folder)
-        for part in (built, gated, answered, side_by_side, ended, failing, kept):
+        for part in (built, gated, ended, side_by_side, failing):
             part(tree, note)
 
 
