@@ -2,10 +2,11 @@
 
 ghost use Rattle.std.specs.Prelude.{◌≡◌, position};
 ghost use Rattle.std.specs.List.{position_or_len};
-ghost use Rattle.explanations.specs.Habits.{ends_habit, front_word, habit_entry, keyword_entry, text_entry, word_entry};
+ghost use Rattle.explanations.specs.Habits.{clause_entry, ends_habit, front_word, habit_entry, keyword_entry};
+ghost use Rattle.explanations.specs.Habits.{names_function, sign_entry, text_entry, word_entry};
 
-use crate::text_lines::behind_place;
-use crate::words::{is_aggregate, is_keyword};
+use crate::text_lines::cut_at;
+use crate::words::{is_aggregate, is_among, is_keyword};
 use text_words::skip_blanks;
 
 /// The entry of the table for what people write by habit, where a line has it at a column, or else at its begin. There
@@ -16,17 +17,37 @@ pub(crate) fn habit_of(number: u64, line: &[u8], column: Option<u64>) -> &'stati
     if number == 1 && line.starts_with(b"\xef\xbb\xbf") {
         return b"habit byte order mark";
     }
-    habit_text(skip_blanks(behind_place(line, column)))
+    let (before, behind) = cut_at(line, column);
+    habit_text(before, skip_blanks(behind))
 }
 
-/// The entry for what stands behind blanks.
-fn habit_text(rest: &[u8]) -> &'static [u8]
-    ensures { result.now ≡ text_entry rest.now }
+/// The entry for what stands behind blanks, and for what stands before them.
+fn habit_text(before: &[u8], rest: &[u8]) -> &'static [u8]
+    ensures { result.now ≡ text_entry before.now rest.now }
 {
     if rest.starts_with(b"'") {
-        return b"habit single quote";
+        b"habit single quote"
+    } else if rest.starts_with(b"(") && names_function(before) {
+        b"habit aggregate"
+    } else {
+        habit_word(word_at_front(rest))
     }
-    habit_word(word_at_front(rest))
+}
+
+/// Whether a text ends in the name of a function over many rows.
+fn names_function(text: &[u8]) -> bool
+    ensures { result ≡ names_function text.now }
+{
+    text.ends_with(b"COUNT")
+        || text.ends_with(b"count")
+        || text.ends_with(b"SUM")
+        || text.ends_with(b"sum")
+        || text.ends_with(b"MIN")
+        || text.ends_with(b"min")
+        || text.ends_with(b"MAX")
+        || text.ends_with(b"max")
+        || text.ends_with(b"AVG")
+        || text.ends_with(b"avg")
 }
 
 /// What stands before the first blank, parenthesis or comma.
@@ -76,16 +97,44 @@ fn habit_word(word: &[u8]) -> &'static [u8]
 fn habit_keyword(word: &[u8]) -> &'static [u8]
     ensures { result.now ≡ keyword_entry word.now }
 {
-    if word == b"AS".as_slice() {
+    if is_among(word, b"AS as") {
         b"habit as"
-    } else if word == b"JOIN".as_slice() {
+    } else if is_among(word, b"JOIN join INNER LEFT CROSS") {
         b"habit join"
-    } else if word == b"LIKE".as_slice() {
+    } else if is_among(word, b"LIKE like GLOB ILIKE REGEXP") {
         b"habit like"
-    } else if word == b"SET".as_slice() {
-        b"habit set"
-    } else if word == b"UPDATE".as_slice() {
+    } else if is_among(word, b"SET set UPDATE update") {
         b"habit update"
+    } else {
+        habit_sign(word)
+    }
+}
+
+/// The entry for a comparison of another language.
+fn habit_sign(word: &[u8]) -> &'static [u8]
+    ensures { result.now ≡ sign_entry word.now }
+{
+    if is_among(word, b"IN in") {
+        b"habit in"
+    } else if is_among(word, b"BETWEEN between") {
+        b"habit between"
+    } else if is_among(word, b"NOT NULL") {
+        b"habit null"
+    } else if is_among(word, b"<> ==") {
+        b"habit equal"
+    } else {
+        habit_clause(word)
+    }
+}
+
+/// The entry for a clause of another language.
+fn habit_clause(word: &[u8]) -> &'static [u8]
+    ensures { result.now ≡ clause_entry word.now }
+{
+    if is_among(word, b"INTO into VALUES values") {
+        b"habit into"
+    } else if is_among(word, b"OFFSET offset") {
+        b"habit offset"
     } else {
         b""
     }

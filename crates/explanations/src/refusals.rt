@@ -272,8 +272,20 @@ Columns keep their names.\n\
 habit update\n\
 No row is changed. Delete it and insert it anew, or keep what changes in a table of its own: \
 docs/SCHEMAS.md.\n\
-habit set\n\
-No row is changed. Delete it and insert it anew, or keep what changes in a table of its own: \
-docs/SCHEMAS.md.\n\
+habit into\n\
+A line is INSERT table value .., with blanks between the values, and without INTO, VALUES, parentheses \
+and commas.\n\
+habit in\n\
+There is no IN. Compare with each value, and put OR between the comparisons.\n\
+habit between\n\
+There is no BETWEEN. Write two comparisons with AND between them: shelves >= 3 AND shelves <= 9.\n\
+habit null\n\
+`column IS NULL` asks whether a value is null, and `NOT column IS NULL` whether it is one. NOT stands \
+before the condition.\n\
+habit equal\n\
+Equal is written =, and unequal !=.\n\
+habit offset\n\
+There is no OFFSET. Ask for more rows, and leave out the first ones: `bec query DIR TEXT | tail -n \
++11`.\n\
 habit byte order mark\n\
 The text begins with a byte order mark. Save it as UTF-8 without one.\n";

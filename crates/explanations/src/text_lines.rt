@@ -64,13 +64,6 @@ pub(crate) fn has_cr(text: &[u8]) -> bool
     false
 }
 
-/// What stands in a line from a column on, which is counted from 1.
-pub(crate) fn behind_place(line: &[u8], column: Option<u64>) -> &[u8]
-    ensures { result.now ≡ from_place line.now column }
-{
-    cut_at(line, column).1
-}
-
 /// What stands before a column of a line, which is counted from 1, and the rest.
 pub(crate) fn cut_at(line: &[u8], column: Option<u64>) -> (&[u8], &[u8])
     ensures before { result.0.now ≡ before_place line.now column }
