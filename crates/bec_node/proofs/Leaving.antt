@@ -105,30 +105,30 @@ printed_no_stream : (outcome : OutcomeOf SealRefusal) (text : List ℕ) → Prin
 printed_no_stream outcome text (inl prints) e = subst (λ (o : OutcomeOf SealRefusal). Prints o text) e prints
 printed_no_stream outcome text (inr memory) e = let other = same_seal seals.Memory seals.Stream (sym memory ∙ e) in cc
 
-drawn_no_stream : (lms : LmsType) (ots : OtsType) (random : Stream) (dir : List ℕ) (before after : ShelfState) (outcome : OutcomeOf SealRefusal) → HsskeyRun lms ots random dir before after outcome
-    → outcome ≡ Err seals.Stream → ⊥
-drawn_no_stream lms ots random dir before after outcome (undrawn why cause is left) e = no_stream why _ (same_seal _ seals.Stream (sym is ∙ e))
-drawn_no_stream lms ots random dir before after outcome (drawn key mid creates puts printed) e = printed_no_stream outcome _ printed e
+drawn_no_stream : (lms : LmsType) (ots : OtsType) (random rest : Stream) (dir : List ℕ) (before after : ShelfState) (outcome : OutcomeOf SealRefusal)
+    → HsskeyRun lms ots random rest dir before after outcome → outcome ≡ Err seals.Stream → ⊥
+drawn_no_stream lms ots random rest dir before after outcome (undrawn why cause is draws left) e = no_stream why _ (same_seal _ seals.Stream (sym is ∙ e))
+drawn_no_stream lms ots random rest dir before after outcome (drawn key mid creates closes draws printed) e = printed_no_stream outcome _ printed e
 
-message_no_stream : (key : HssState) (before : ShelfState) (random : Stream) (msg : List ℕ) (outcome : OutcomeOf SealRefusal) (signed : HssState) (after : ShelfState)
-    → SealsMessage key before random msg outcome signed after → outcome ≡ Err seals.Stream → ⊥
-message_no_stream key before random msg outcome signed after (unsealed why far refuses is) e = no_stream why _ (same_seal _ seals.Stream (sym is ∙ e))
-message_no_stream key before random msg outcome signed after (sealed text far signs by printed) e = printed_no_stream outcome _ printed e
+message_no_stream : (key : HssState) (before : ShelfState) (random rest : Stream) (msg : List ℕ) (outcome : OutcomeOf SealRefusal) (signed : HssState) (after : ShelfState)
+    → SealsMessage key before random rest msg outcome signed after → outcome ≡ Err seals.Stream → ⊥
+message_no_stream key before random rest msg outcome signed after (unsealed why refuses is) e = no_stream why _ (same_seal _ seals.Stream (sym is ∙ e))
+message_no_stream key before random rest msg outcome signed after (sealed text signs by printed) e = printed_no_stream outcome _ printed e
 
-input_rose : (key : HssState) (before : ShelfState) (random : Stream) (left later : Option (List ℕ)) (old new : ℕ) (outcome : OutcomeOf SealRefusal) (signed : HssState) (after : ShelfState)
-    → SealsInput key before random left later old new outcome signed after → outcome ≡ Err seals.Stream → Rose old new
-input_rose key before random left later old new outcome signed after (unread why fault is same kept) e = by fault (same_seal why seals.Stream (sym is ∙ e))
+input_rose : (key : HssState) (before : ShelfState) (random rest : Stream) (left later : Option (List ℕ)) (old new : ℕ) (outcome : OutcomeOf SealRefusal) (signed : HssState) (after : ShelfState)
+    → SealsInput key before random rest left later old new outcome signed after → outcome ≡ Err seals.Stream → Rose old new
+input_rose key before random rest left later old new outcome signed after (unread why fault is same kept undrawn) e = by fault (same_seal why seals.Stream (sym is ∙ e))
   where
     by : IsInputFault old new why → why ≡ seals.Stream → Rose old new
     by (inl memory) stream = absurd (let other : seals.Memory ≡ seals.Stream = sym memory ∙ stream in cc)
     by (inr failed) stream = failed.1
-input_rose key before random left later old new outcome signed after (too_long long is same kept) e = absurd (let other = same_seal seals.InputTooLong seals.Stream (sym is ∙ e) in cc)
-input_rose key before random left later old new outcome signed after (read_whole msg whole few message) e = absurd (message_no_stream key before random msg outcome signed after message e)
+input_rose key before random rest left later old new outcome signed after (too_long long is same kept undrawn) e = absurd (let other = same_seal seals.InputTooLong seals.Stream (sym is ∙ e) in cc)
+input_rose key before random rest left later old new outcome signed after (read_whole msg whole few spent message) e = absurd (message_no_stream key before random rest msg outcome signed after message e)
 
-sealed_rose : (dir : List ℕ) (before after : ShelfState) (random : Stream) (left later : Option (List ℕ)) (old new : ℕ) (outcome : OutcomeOf SealRefusal)
-    → SealRun dir before after random left later old new outcome → outcome ≡ Err seals.Stream → Rose old new
-sealed_rose dir before after random left later old new outcome (unopened why cause reads same is) e = absurd (no_stream why 0 (same_seal (refusal_of why 0) seals.Stream (sym is ∙ e)))
-sealed_rose dir before after random left later old new outcome (opened key signed mid done opens input puts) e = input_rose key mid random left later old new outcome signed done input e
+sealed_rose : (dir : List ℕ) (before after : ShelfState) (random rest : Stream) (left later : Option (List ℕ)) (old new : ℕ) (outcome : OutcomeOf SealRefusal)
+    → SealRun dir before after random rest left later old new outcome → outcome ≡ Err seals.Stream → Rose old new
+sealed_rose dir before after random rest left later old new outcome (unopened why cause reads same undrawn is) e = absurd (no_stream why 0 (same_seal (refusal_of why 0) seals.Stream (sym is ∙ e)))
+sealed_rose dir before after random rest left later old new outcome (opened key signed mid done opens sound input keeps closes) e = input_rose key mid random rest left later old new outcome signed done input e
 
 -- ---- commands over the source alone, and over a store that is only read
 
@@ -175,9 +175,9 @@ module _ {S H R : Type 0} (before after : Outside S H R) (sink sink_new : SinkSt
 
   seal_blames : (request : SealText) (outcome : Outcome) → SealComes request before after outcome → Ends sink.faults sink_new.faults sink.held sink_new.held outcome status → Blames
   seal_blames (hsskey dir height width) outcome comes said =
-      seals_blame _ (λ own run e. absurd (drawn_no_stream height width before.stream dir before.store after.store own run e)) outcome comes.draws said
+      seals_blame _ (λ own run e. absurd (drawn_no_stream height width before.stream after.stream dir before.store after.store own run e)) outcome comes.draws said
   seal_blames (seal dir) outcome comes said =
-      seals_blame _ (λ own run e. sealed_rose dir before.store after.store before.stream before.left after.left before.source_faults after.source_faults own run e) outcome comes said
+      seals_blame _ (λ own run e. sealed_rose dir before.store after.store before.stream after.stream before.left after.left before.source_faults after.source_faults own run e) outcome comes said
   seal_blames (unseal key signature) outcome comes said =
       by_own IsOfUnsealing (no_unsealing refusals.StoreFault (inl refl)) (no_unsealing refusals.Stream (inr refl)) outcome
       (source_ends before after IsOfUnsealing (UnsealAnswer from_seal key signature) (unseal_own key signature before.left after.left) outcome comes) said
@@ -208,7 +208,7 @@ watched_store old new text store store_new source source_new (Some Unwritten) st
 watched_store old new text store store_new source source_new (Some (Refused refusal)) status cause (inl (inl whole)) e =
     subst (λ (r : Refusal). HasCause store store_new source source_new (Some (Refused r))) (refusal_store refusal (sym whole.0 ∙ e)) cause
 watched_store old new text store store_new source source_new (Some (Refused refusal)) status cause (inl (inr front)) e = absurd (let own = front.0 in omega (arith, e, own))
-watched_store old new text store store_new source source_new (Some (Refused refusal)) status cause (inr lacked) e = absurd (let own = lacked.0 in omega (arith, e, own))
+watched_store old new text store store_new source source_new (Some (Refused refusal)) status cause (inr lacked) e = absurd (let own = lacked.1.0 in omega (arith, e, own))
 
 watched_stream : (old new : SinkState) (text : List ℕ) (store store_new source source_new : ℕ) (stop : Option Stop) (status : ℕ) → HasCause store store_new source source_new stop → Says old new text stop status
     → status ≡ STREAM_FAULT → Rose source source_new ⊎ Rose old.faults new.faults
@@ -217,7 +217,7 @@ watched_stream old new text store store_new source source_new (Some Unwritten) s
 watched_stream old new text store store_new source source_new (Some (Refused refusal)) status cause (inl (inl whole)) e =
     inl (subst (λ (r : Refusal). HasCause store store_new source source_new (Some (Refused r))) (refusal_stream refusal (sym whole.0 ∙ e)) cause)
 watched_stream old new text store store_new source source_new (Some (Refused refusal)) status cause (inl (inr front)) e = inr front.1
-watched_stream old new text store store_new source source_new (Some (Refused refusal)) status cause (inr lacked) e = absurd (let own = lacked.0 in omega (arith, e, own))
+watched_stream old new text store store_new source source_new (Some (Refused refusal)) status cause (inr lacked) e = absurd (let own = lacked.1.0 in omega (arith, e, own))
 
 -- ---- requests of families without a net
 

@@ -1,5 +1,6 @@
 pub mod Answered
 pub mod Asking
+pub mod Drawing
 pub mod Ending
 pub mod Ends
 pub mod Faults

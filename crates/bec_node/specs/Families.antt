@@ -4,22 +4,23 @@ use Rattle.std.specs.declared.alloc.Global.{Global}
 use Rattle.std.specs.String.{string_bytes}
 use Rattle.bec_bytes.specs.Causes.{Rose}
 use Rattle.bec_disk.specs.Shelf.{ShelfState}
+use Rattle.bec_disk.specs.declared.part.Part.TheVariants.{Key}
 use Rattle.command_words.specs.AuditRequests.{AsksAudit, AuditText, audit, confirm}
 use Rattle.command_words.specs.SealRequests.{AsksSeal, SealText, hsskey, seal, unseal}
 use Rattle.command_words.specs.Seen.{audit_seen, seal_seen, watch_seen, world_seen}
 use Rattle.command_words.specs.WatchRequests.{AsksWatch, WatchText, watch}
 use Rattle.command_words.specs.WorldRequests.{AsksWorld, WorldText, demo, world}
-use Rattle.key_directory.specs.Parts.{IsHome}
+use Rattle.key_directory.specs.Parts.{IsHome, part_in, reading}
 use Rattle.lm_ots.specs.declared.ots_type.OtsType.{OtsType}
 use Rattle.lms_tree.specs.declared.lms_type.LmsType.{LmsType}
-use Rattle.seal_commands.specs.Sealing.{HsskeyRun, SealRun}
+use Rattle.seal_commands.specs.Sealing.{HsskeyAnswer, HsskeyRun, SealRun}
 use Rattle.seal_commands.specs.declared.refusal.SealRefusal.{SealRefusal}
 use Rattle.seal_commands.specs.declared.refusal.SealRefusal.TheVariants as seals
 use Rattle.seal_commands.specs.Unsealing.{UnsealAnswer}
 use Rattle.audit_commands.specs.Audits.{ShowsDoubled}
 use Rattle.audit_commands.specs.Confirming.{ConfirmAnswer}
 use Rattle.outcomes.specs.Comes.{ReadsSource, ReadsStoreOnly}
-use Rattle.outcomes.specs.Only.{ShelfOnly, SourceOnly}
+use Rattle.outcomes.specs.Only.{EachAs, ShelfOnly, SourceOnly}
 use Rattle.outcomes.specs.Outcome.{Ends, Outcome}
 use Rattle.outcomes.specs.Outside.{Outside}
 use Rattle.outcomes.specs.StoreAnswers.{Printing, ReadsStore}
@@ -90,12 +91,12 @@ pub record TellsSeals (Comes : OutcomeOf SealRefusal → Type 0) (before after :
 
 -- A two-level key is drawn for a directory, or not. The source is not used.
 pub record DrawsHss {S H R : Type 0} (height : LmsType) (width : OtsType) (dir : List ℕ) (before after : Outside S H R) (outcome : Outcome) : Type 0 where
-  pub draws : TellsSeals (HsskeyRun height width before.stream dir before.store after.store) before.store after.store before.shelf_faults after.shelf_faults outcome
+  pub draws : TellsSeals (HsskeyRun height width before.stream after.stream dir before.store after.store) before.store after.store before.shelf_faults after.shelf_faults outcome
   pub source : after.source ≡ before.source
 
 -- The input is sealed by the two-level key of a directory, or not.
 abbrev pub SealsSource : {S H R : Type 0} → List ℕ → Outside S H R → Outside S H R → Outcome → Type 0
-SealsSource dir before after = TellsSeals (SealRun dir before.store after.store before.stream before.left after.left before.source_faults after.source_faults) before.store after.store before.shelf_faults after.shelf_faults
+SealsSource dir before after = TellsSeals (SealRun dir before.store after.store before.stream after.stream before.left after.left before.source_faults after.source_faults) before.store after.store before.shelf_faults after.shelf_faults
 
 -- What a request about seals comes to.
 abbrev pub SealComes : {S H R : Type 0} → SealText → Outside S H R → Outside S H R → Outcome → Type 0
@@ -103,9 +104,10 @@ SealComes (hsskey dir height width) = DrawsHss height width dir
 SealComes (seal dir) = SealsSource dir
 SealComes (unseal key signature) = ReadsSource (UnsealAnswer from_seal key signature)
 
--- Each answer of `unseal` to what the source has comes with its status, unless the source or the sink failed or memory ran out.
+-- Each answer of `hsskey` to what the part Key reads as, and of `unseal` to what the source has, comes with its status, unless a disk, the source or the sink
+-- failed or memory ran out.
 abbrev pub SealAnswersOnly : {S H R : Type 0} → SealText → Outside S H R → ℕ → Type 0
-SealAnswersOnly (hsskey dir height width) before = λ status. Unit {0}
+SealAnswersOnly (hsskey dir height width) before = λ status. IsTrue before.store.tells → EachAs (HsskeyAnswer from_seal height width before.stream (reading (part_in before.store dir Key))) status
 SealAnswersOnly (seal dir) before = λ status. Unit {0}
 SealAnswersOnly (unseal key signature) before = SourceOnly (UnsealAnswer from_seal key signature) before.left
 

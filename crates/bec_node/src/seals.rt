@@ -25,8 +25,8 @@ pub(crate) fn drawn_hss<G: LeafGenerator, H: Shelf, R: Rng>(
     random: &mut R,
 ) -> Result<Vec<u8>, Refusal>
     requires { IsTrue (H.state shelf.old).tells → IsHome (H.state shelf.old) }
-    ensures { TellsSeals (HsskeyRun types.lms types.ots (R.stream random.old) directory.now (H.state shelf.old)
-        (H.state shelf.new))
+    ensures { TellsSeals (HsskeyRun types.lms types.ots (R.stream random.old) (R.stream random.new) directory.now
+        (H.state shelf.old) (H.state shelf.new))
         (H.state shelf.old) (H.state shelf.new) (H.faults shelf.old) (H.faults shelf.new) result }
 {
     match hsskey(generator, alloc, shelf, directory, types, random) {
@@ -46,7 +46,7 @@ pub(crate) fn sealed<G: LeafGenerator, H: Shelf, R: Rng, S: Source>(
 ) -> Result<Vec<u8>, Refusal>
     requires { IsTrue (H.state shelf.old).tells → IsHome (H.state shelf.old) }
     ensures { TellsSeals (SealRun directory.now (H.state shelf.old) (H.state shelf.new) (R.stream random.old)
-        (S.left input.old) (S.left input.new) (S.faults input.old) (S.faults input.new))
+        (R.stream random.new) (S.left input.old) (S.left input.new) (S.faults input.old) (S.faults input.new))
         (H.state shelf.old) (H.state shelf.new) (H.faults shelf.old) (H.faults shelf.new) result }
 {
     match seal(generator, alloc, shelf, directory, random, input) {

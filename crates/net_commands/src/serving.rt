@@ -1,6 +1,6 @@
 //! The command `serve DIR ADDR --sessions N`: a session with each of the nodes that dial.
 
-ghost use Rattle.std.specs.Prelude.{◌≡◌, ◌≢◌, ◌<◌, IfOk, IsTrue, OnOk};
+ghost use Rattle.std.specs.Prelude.{◌≡◌, ◌≢◌, ◌<◌, IfOk, IsErrOf, IsTrue, Ok, OnOk};
 ghost use Rattle.bec_disk.specs.declared.part.Part.TheVariants.{Peers as PeersPart};
 ghost use Rattle.bec_disk.specs.Shelf.{out};
 ghost use Rattle.net_commands.specs.Meetings.{RemembersAll, ServesStore};
@@ -172,9 +172,10 @@ fn conclude_all<H: Shelf>(
     })
 }
 
-/// Whether a disk failed while something was kept. The error is that memory ran out.
+/// Whether a disk failed while something was kept. The error is that memory ran out, and no disk failed.
 fn has_store_failed(kept: Result<(), Refusal>) -> Result<bool, AllocError>
-    ensures { IfOk result (HasFailed kept) }
+    ensures told { IfOk result (HasFailed kept) }
+    ensures failed { IsErrOf kept Refusal.StoreFault → result ≡ Ok true }
 {
     match kept {
         Ok(()) => Ok(false),

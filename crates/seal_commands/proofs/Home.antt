@@ -5,17 +5,18 @@ use Rattle.bec_bytes.specs.Causes.{Rose}
 use Rattle.bec_disk.specs.declared.part.Part.TheVariants.{Key, Used, Peers}
 use Rattle.bec_disk.specs.Shelf.{ShelfState, out}
 use Rattle.bec_disk.specs.Slot.{Slot, slot}
-use Rattle.key_directory.specs.Parts.{IsHome, LetsNewGo}
+use Rattle.key_directory.specs.Keys.{IsNoKey}
+use Rattle.key_directory.specs.Parts.{IsHome, LetsNewGo, part_in, reading}
 use Rattle.rand_core.specs.Stream.{Stream}
 use Rattle.key_directory.proofs.Putting.{told}
-use Rattle.hss_directory.specs.Calls.{BeginsHss, EndsHss, HeldRose, KeepsHss, LowerRose}
+use Rattle.hss_directory.specs.Calls.{BeginsHss, EndsHss, HeldRose, KeepsHss, LowerRose, PutsHss}
 use Rattle.hss_directory.specs.declared.fault.HssFault.{HssFault}
 use Rattle.hss_directory.specs.declared.fault.HssFault.TheVariants as faults
 use Rattle.hss_directory.specs.Places.{AreHome, Holds, IsElsewhere, KeepsElse, OnlyReads}
-use Rattle.hss_directory.specs.Values.{HssState, IsSound, LowerState, low_dir}
+use Rattle.hss_directory.specs.Values.{HssState, IsReadable, IsSound, LowerState, low_dir}
 use Rattle.hss_directory.proofs.Places.{keeps_both}
 use Rattle.seal_commands.specs.Inputs.{IsInputFault, IsLongText}
-use Rattle.seal_commands.specs.Sealing.{SealsInput, refusal_of, too_long, unread}
+use Rattle.seal_commands.specs.Sealing.{ClosesHss, IsUndrawnCause, SealsInput, refusal_of, too_long, unread}
 use Rattle.seal_commands.specs.declared.reading.TheConstants.{INPUT_LIMIT}
 use Rattle.seal_commands.specs.declared.refusal.SealRefusal.{SealRefusal}
 use Rattle.seal_commands.specs.declared.refusal.SealRefusal.TheVariants.{InputTooLong, Store}
@@ -58,6 +59,17 @@ store_is_disk faults.BadKey n is = absurd cc
 store_is_disk faults.Spent n is = absurd cc
 store_is_disk faults.Memory n is = absurd cc
 
+-- a key that is created is refused for three causes alone
+pub undrawn_cause : (shelf : ShelfState) (dir : List ℕ) (why : HssFault)
+    → (why ≡ faults.KeyThere → IsTrue shelf.tells → IsNoKey (reading (part_in shelf dir Key)) → ⊥)
+    → (why ≡ faults.Disk) ⊎ ((why ≡ faults.KeyThere) ⊎ (why ≡ faults.Memory)) → IsUndrawnCause shelf dir why
+undrawn_cause shelf dir why refused (inl disk) = subst (IsUndrawnCause shelf dir) (sym disk) tt
+undrawn_cause shelf dir why refused (inr (inl there)) = subst (IsUndrawnCause shelf dir) (sym there) (refused there)
+undrawn_cause shelf dir why refused (inr (inr memory)) = subst (IsUndrawnCause shelf dir) (sym memory) tt
+
+pub closed : {before after : ShelfState} {hss : HssState} → IsSound hss → IsReadable hss.top × IfSome hss.lower (λ lower. IsReadable lower.key) → PutsHss before hss after → ClosesHss before hss after
+closed sound reads puts = record { sound = sound; reads = reads; puts = puts }
+
 pub home_undrawn : (payload filling dir : List ℕ) (before after : ShelfState) → (after ≡ before) ⊎ LetsNewGo Key Used payload filling before dir after → IsTrue before.tells → IsHome before → IsHome after
 home_undrawn payload filling dir before after (inl same) tells home = subst (λ (s : ShelfState). IsHome s) (sym same) home
 home_undrawn payload filling dir before after (inr lets) tells home = lets.home tells home
@@ -82,9 +94,9 @@ keeps_still shelf hss sound holds = record { tells = refl; place = refl; secret 
 
 -- an input that was not read
 pub unread_input : (hss : HssState) (shelf : ShelfState) (random : Stream) (left later : Option (List ℕ)) (old new : ℕ) (why : SealRefusal)
-    → ((why ≡ InputTooLong) × IsLongText INPUT_LIMIT left later) ⊎ IsInputFault old new why → SealsInput hss shelf random left later old new (Err why) hss shelf
-unread_input hss shelf random left later old new why (inl long) = too_long long.1 (ap (λ (w : SealRefusal). Err w) long.0) refl refl
-unread_input hss shelf random left later old new why (inr fault) = unread why fault refl refl refl
+    → ((why ≡ InputTooLong) × IsLongText INPUT_LIMIT left later) ⊎ IsInputFault old new why → SealsInput hss shelf random random left later old new (Err why) hss shelf
+unread_input hss shelf random left later old new why (inl long) = too_long long.1 (ap (λ (w : SealRefusal). Err w) long.0) refl refl refl
+unread_input hss shelf random left later old new why (inr fault) = unread why fault refl refl refl refl
 
 pub never_store : (left later : Option (List ℕ)) (old new : ℕ) (why : SealRefusal) → ((why ≡ InputTooLong) × IsLongText INPUT_LIMIT left later) ⊎ IsInputFault old new why → why ≡ Store → ⊥
 never_store left later old new why (inl long) is = absurd cc

@@ -1,11 +1,11 @@
 //! `hsskey` and `seal`.
 
-ghost use Rattle.std.specs.Prelude.{◌≡◌, ◌≤◌, ◌⊎◌, IsErrOf, IsTrue};
+ghost use Rattle.std.specs.Prelude.{◌≡◌, ◌≤◌, ◌⊎◌, IfSome, IsErrOf, IsTrue};
 ghost use Rattle.bec_bytes.specs.Causes.{Rose};
 ghost use Rattle.key_directory.specs.Parts.{IsHome};
 ghost use Rattle.hss_directory.specs.Calls.{HeldRose, KeepsHss};
 ghost use Rattle.hss_directory.specs.Places.{Holds};
-ghost use Rattle.hss_directory.specs.Values.{IsSound};
+ghost use Rattle.hss_directory.specs.Values.{IsReadable, IsSound, IsSpent};
 ghost use Rattle.seal_commands.specs.Sealing.{HsskeyRun, SealRun, SealsInput, SealsMessage};
 
 use crate::reading::read_input;
@@ -29,8 +29,8 @@ pub fn hsskey<G: LeafGenerator, H: Shelf, R: Rng>(
     random: &mut R,
 ) -> Result<Vec<u8>, SealRefusal>
     requires { IsTrue (H.state shelf.old).tells → IsHome (H.state shelf.old) }
-    ensures comes { HsskeyRun types.lms types.ots (R.stream random.old) dir.now (H.state shelf.old) (H.state shelf.new)
-        result }
+    ensures comes { HsskeyRun types.lms types.ots (R.stream random.old) (R.stream random.new) dir.now
+        (H.state shelf.old) (H.state shelf.new) result }
     ensures home { IsTrue (H.state shelf.old).tells → IsHome (H.state shelf.new) }
     ensures failed { IsErrOf result SealRefusal.Store → Rose (H.faults shelf.old) (H.faults shelf.new) }
 {
@@ -54,8 +54,8 @@ pub fn seal<G: LeafGenerator, H: Shelf, R: Rng, S: Source>(
     input: &mut S,
 ) -> Result<Vec<u8>, SealRefusal>
     requires { IsTrue (H.state shelf.old).tells → IsHome (H.state shelf.old) }
-    ensures comes { SealRun dir.now (H.state shelf.old) (H.state shelf.new) (R.stream random.old) (S.left input.old)
-        (S.left input.new) (S.faults input.old) (S.faults input.new) result }
+    ensures comes { SealRun dir.now (H.state shelf.old) (H.state shelf.new) (R.stream random.old) (R.stream random.new)
+        (S.left input.old) (S.left input.new) (S.faults input.old) (S.faults input.new) result }
     ensures home { IsTrue (H.state shelf.old).tells → IsHome (H.state shelf.new) }
     ensures failed { IsErrOf result SealRefusal.Store → Rose (H.faults shelf.old) (H.faults shelf.new) }
 {
@@ -79,8 +79,9 @@ fn seal_input<G: LeafGenerator, H: Shelf, R: Rng, S: Source>(
 ) -> Result<Vec<u8>, SealRefusal>
     requires held { IsTrue (H.state shelf.old).tells → Holds (H.state shelf.old) hss.old }
     requires sound { IsSound hss.old }
-    ensures seals { SealsInput hss.old (H.state shelf.old) (R.stream random.old) (S.left input.old) (S.left input.new)
-        (S.faults input.old) (S.faults input.new) result hss.new (H.state shelf.new) }
+    ensures seals { SealsInput hss.old (H.state shelf.old) (R.stream random.old) (R.stream random.new)
+        (S.left input.old) (S.left input.new) (S.faults input.old) (S.faults input.new) result hss.new
+        (H.state shelf.new) }
     ensures keeps { KeepsHss (H.state shelf.old) hss.old (H.state shelf.new) hss.new }
     ensures later { H.faults shelf.old ≤ H.faults shelf.new }
     ensures failed { IsErrOf result SealRefusal.Store → Rose (H.faults shelf.old) (H.faults shelf.new)
@@ -101,8 +102,9 @@ fn seal_message<G: LeafGenerator, H: Shelf, R: Rng>(
 ) -> Result<Vec<u8>, SealRefusal>
     requires held { IsTrue (H.state shelf.old).tells → Holds (H.state shelf.old) hss.old }
     requires sound { IsSound hss.old }
-    ensures seals { SealsMessage hss.old (H.state shelf.old) (R.stream random.old) msg.now result hss.new
-        (H.state shelf.new) }
+    ensures seals { SealsMessage hss.old (H.state shelf.old) (R.stream random.old) (R.stream random.new) msg.now result
+        hss.new (H.state shelf.new) }
+    ensures reads { IfSome hss.old.lower (λ lower. IsSpent lower.key → IsReadable lower.key) }
     ensures keeps { KeepsHss (H.state shelf.old) hss.old (H.state shelf.new) hss.new }
     ensures later { H.faults shelf.old ≤ H.faults shelf.new }
     ensures failed { IsErrOf result SealRefusal.Store → Rose (H.faults shelf.old) (H.faults shelf.new)

@@ -6,7 +6,7 @@ use lib.Seq.{take-append-add}
 use Rattle.bec_bytes.specs.Causes.{Rose}
 use Rattle.schema_verdict.specs.Written.{Puts, SinkState}
 use Rattle.schema_verdict.specs.declared.status.TheConstants.{OUT_OF_MEMORY}
-use Rattle.outcomes.specs.Outcome.{Ends, Says as SaysOutcome, status_for, text_for}
+use Rattle.outcomes.specs.Outcome.{Ends, MayLackMemory, Says as SaysOutcome, status_for, text_for}
 use Rattle.outcomes.specs.declared.refusal.Refusal.{Refusal}
 use Rattle.outcomes.specs.declared.refusal.Refusal.TheVariants.{Memory}
 use Rattle.watch_command.specs.Ending.{Says, Writes, WritesFront}
@@ -43,14 +43,14 @@ module _ (old mid new : SinkState) (front : List ℕ) (written : Appends old.hel
       let front_of_all : WritesFront old new (front ++ text_for refusal) = front_then (text_for refusal) (failed.1, failed.2) in
       inl (inr (failed.0, front_of_all.0, front_of_all.1))
 
-  says_no_more : (status : ℕ) (refusal : Refusal) → (status ≡ OUT_OF_MEMORY) × Appends mid.held new.held [] → Says old new front (Some (Refused refusal)) status
-  says_no_more status refusal none = inr (none.0, subst (Appends old.held new.held) (append-nil front) (all_then [] none.1))
+  says_no_more : (status : ℕ) (refusal : Refusal) → MayLackMemory (Err refusal) → (status ≡ OUT_OF_MEMORY) × Appends mid.held new.held [] → Says old new front (Some (Refused refusal)) status
+  says_no_more status refusal may none = inr (may, none.0, subst (Appends old.held new.held) (append-nil front) (all_then [] none.1))
 
   says_outcome : (refusal : Refusal) (status : ℕ) → SaysOutcome mid.faults new.faults mid.held new.held (Err refusal) status → Says old new front (Some (Refused refusal)) status
-  says_outcome Memory status said = says_no_more status Memory said
+  says_outcome Memory status said = says_no_more status Memory tt said
   says_outcome refusal status said = says_put refusal status said
 
   -- the lines of a refusal behind the blocks
   pub says_refused : (refusal : Refusal) (status : ℕ) → Ends mid.faults new.faults mid.held new.held (Err refusal) status → Says old new front (Some (Refused refusal)) status
   says_refused refusal status (inl said) = says_outcome refusal status said
-  says_refused refusal status (inr lacks) = says_no_more status refusal lacks.1
+  says_refused refusal status (inr lacks) = says_no_more status refusal lacks.0 lacks.1

@@ -10,7 +10,7 @@ use Rattle.update_codec.specs.Parts.{entry_of}
 use Rattle.update_codec.specs.declared.limits.TheConstants.{UPDATE_LIMIT}
 use Rattle.schema_verdict.specs.Written.{Puts, SinkState}
 use Rattle.schema_verdict.specs.declared.status.TheConstants.{DONE, OUT_OF_MEMORY, STREAM_FAULT}
-use Rattle.outcomes.specs.Outcome.{status_for, text_for}
+use Rattle.outcomes.specs.Outcome.{MayLackMemory, status_for, text_for}
 use Rattle.outcomes.specs.declared.refusal.Refusal.{Refusal}
 use Rattle.outcomes.specs.declared.refusal.Refusal.TheVariants as refusals
 use Rattle.watch_command.specs.Records.{IsRead, IsStop}
@@ -71,11 +71,11 @@ abbrev pub Writes : SinkState → SinkState → List ℕ → Option Stop → Typ
 Writes old new text (Some Unwritten) = WritesFront old new text
 Writes old new text other = Appends old.held new.held text
 
--- The blocks are written and behind them the lines of a refusal, if it stopped for one, with the status of that. Where memory runs out for the lines,
--- the status is that, and they are left out.
+-- The blocks are written and behind them the lines of a refusal, if it stopped for one, with the status of that. Where memory runs out for lines that are
+-- made of what a refusal has, the status is that, and they are left out.
 abbrev pub Says : SinkState → SinkState → List ℕ → Option Stop → ℕ → Type 0
 Says old new text None status = (status ≡ DONE) × Appends old.held new.held text
 Says old new text (Some Unwritten) status = (status ≡ STREAM_FAULT) × WritesFront old new text
 Says old new text (Some (Refused refusal)) status =
     Puts old.faults new.faults old.held new.held (status_for refusal) (text ++ text_for refusal) status
-    ⊎ ((status ≡ OUT_OF_MEMORY) × Appends old.held new.held text)
+    ⊎ (MayLackMemory (Err refusal) × (status ≡ OUT_OF_MEMORY) × Appends old.held new.held text)

@@ -13,4 +13,4 @@ returns-in_err-serve_text g c =
     rw (p.1, p.2) (concludes_all_not _ _ _ _ _ _ _ _ c.args.met.now _ c.as_slice-sessions.ensures c.keep_sessions-kept.result c.keep_sessions-kept.ensures)
 
 pub returns : goal.returns
-returns g c = concludes_all _ _ _ _ _ _ _ _ c.args.met.now _ c.as_slice-sessions.ensures c.keep_sessions-kept.result c.keep_sessions-kept.ensures c.in_ok-store_failed.store_failed c.in_ok-store_failed.ensures _ c.in_ok-serve_text.ensures c.serve_status.ensures
+returns g c = concludes_all _ _ _ _ _ _ _ _ c.args.met.now _ c.as_slice-sessions.ensures c.keep_sessions-kept.result c.keep_sessions-kept.ensures c.in_ok-store_failed.store_failed c.in_ok-store_failed.ensures.told _ c.in_ok-serve_text.ensures c.serve_status.ensures

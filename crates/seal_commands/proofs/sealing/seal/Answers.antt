@@ -3,7 +3,7 @@ use Rattle.key_directory.proofs.Putting.{told}
 use Rattle.hss_directory.specs.declared.fault.HssFault.{HssFault}
 use Rattle.seal_commands.specs.Sealing.{opened, refusal_of, unopened}
 use Rattle.seal_commands.specs.declared.refusal.SealRefusal.{SealRefusal}
-use Rattle.seal_commands.proofs.Home.{are_home, err_same, held_rose, home_after_all, home_read, store_is_disk}
+use Rattle.seal_commands.proofs.Home.{are_home, closed, err_same, held_rose, home_after_all, home_read, store_is_disk}
 use Rattle.seal_commands.proofs.sealing.seal.Goals as goal
 
 pub open_hss-requires : goal.open_hss-requires
@@ -11,7 +11,7 @@ open_hss-requires g c tells = are_home (g.H.Shelf.state c.args.shelf.now) c.args
 
 pub returns-in-Err-clause-comes : goal.returns-in-Err-clause-comes
 returns-in-Err-clause-comes g c =
-    unopened c.in-Err.why c.in-Err.ensures.refused c.in-Err.ensures.lets_go refl (ap (λ (w : SealRefusal). Err w) c.refusal_of.ensures)
+    unopened c.in-Err.why c.in-Err.ensures.refused c.in-Err.ensures.lets_go refl refl (ap (λ (w : SealRefusal). Err w) c.refusal_of.ensures)
 
 pub returns-in-Err-clause-home : goal.returns-in-Err-clause-home
 returns-in-Err-clause-home g c tells = home_read (g.H.Shelf.state c.args.shelf.now) (g.H.Shelf.state c.open_hss.new.shelf) tells c.in-Err.ensures.lets_go (c.requires tells)
@@ -37,7 +37,8 @@ close-requires-clause-sound g c = c.seal_input-sealed.ensures.keeps.sound
 
 pub returns-clause-comes : goal.returns-clause-comes
 returns-clause-comes g c =
-    opened c.in-Ok.hss c.seal_input-sealed.new.hss (g.H.Shelf.state c.open_hss.new.shelf) (g.H.Shelf.state c.seal_input-sealed.new.shelf) c.in-Ok.ensures.opens c.seal_input-sealed.ensures.seals c.close.ensures.puts
+    opened c.in-Ok.hss c.seal_input-sealed.new.hss (g.H.Shelf.state c.open_hss.new.shelf) (g.H.Shelf.state c.seal_input-sealed.new.shelf) c.in-Ok.ensures.opens c.in-Ok.ensures.begins.sound
+    c.seal_input-sealed.ensures.seals c.seal_input-sealed.ensures.keeps (closed c.seal_input-sealed.ensures.keeps.sound c.close.ensures.reads c.close.ensures.puts)
 
 pub returns-clause-home : goal.returns-clause-home
 returns-clause-home g c tells =

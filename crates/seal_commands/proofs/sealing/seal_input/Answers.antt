@@ -29,6 +29,6 @@ returns-in_err-msg-clause-failed g c is =
 pub returns-clause-seals : goal.returns-clause-seals
 returns-clause-seals g c =
     let read = c.in_ok-msg.ensures.whole in
-    let seals = subst (λ (m : List ℕ). SealsMessage c.args.hss.now (g.H.Shelf.state c.args.shelf.now) (g.R.Rng.stream c.args.random.now) m c.seal_message.result c.seal_message.new.hss (g.H.Shelf.state c.seal_message.new.shelf))
+    let seals = subst (λ (m : List ℕ). SealsMessage c.args.hss.now (g.H.Shelf.state c.args.shelf.now) (g.R.Rng.stream c.args.random.now) (g.R.Rng.stream c.seal_message.new.random) m c.seal_message.result c.seal_message.new.hss (g.H.Shelf.state c.seal_message.new.shelf))
     c.as_slice.ensures.value c.seal_message.ensures.seals in
-    read_whole c.in_ok-msg.msg.items read.0 read.1 seals
+    read_whole c.in_ok-msg.msg.items read.0 read.1 c.seal_message.ensures.reads seals

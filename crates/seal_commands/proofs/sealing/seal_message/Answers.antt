@@ -11,19 +11,19 @@ use Rattle.seal_commands.proofs.sealing.seal_message.Goals as goal
 
 pub returns-in_ok-hex_line-in-Ok-clause-seals : goal.returns-in_ok-hex_line-in-Ok-clause-seals
 returns-in_ok-hex_line-in-Ok-clause-seals g c =
-    sealed c.in-Ok.seal.items (g.R.Rng.stream c.sign.new.random) c.in-Ok.ensures.signs c.in-Ok.ensures.sealed
+    sealed c.in-Ok.seal.items c.in-Ok.ensures.signs c.in-Ok.ensures.sealed
     (inl (c.in_ok-hex_line-in-Ok.ensures ∙ ap (λ (b : List ℕ). encode_lower b ++ 10 ∷ []) c.as_slice.ensures.value))
 
 pub returns-in_err-hex_line-in-Ok-clause-seals : goal.returns-in_err-hex_line-in-Ok-clause-seals
 returns-in_err-hex_line-in-Ok-clause-seals g c =
     let p = err_from_is_err_and c.from_residual.result c.from_residual.ensures.1 in
-    rw (p.1, p.2) (sealed c.in-Ok.seal.items (g.R.Rng.stream c.sign.new.random) c.in-Ok.ensures.signs c.in-Ok.ensures.sealed (inr refl))
+    rw (p.1, p.2) (sealed c.in-Ok.seal.items c.in-Ok.ensures.signs c.in-Ok.ensures.sealed (inr refl))
 
 pub returns-in-Err-clause-seals : goal.returns-in-Err-clause-seals
 returns-in-Err-clause-seals g c =
     let why = c.in-Err.why in
     let count : c.top_count.result ≡ leaf_count c.args.hss.now.top.secret.lms = c.top_count.ensures ∙ ap (λ (s : SecretData). leaf_count s.lms) c.sign.ensures.keeps.secret in
-    unsealed why (g.R.Rng.stream c.sign.new.random) c.in-Err.ensures.refused (ap (λ (w : SealRefusal). Err w) (c.refusal_of.ensures ∙ ap (λ (n : ℕ). refusal_of why n) count))
+    unsealed why c.in-Err.ensures.refused (ap (λ (w : SealRefusal). Err w) (c.refusal_of.ensures ∙ ap (λ (n : ℕ). refusal_of why n) count))
 
 pub returns-in-Err-clause-failed : goal.returns-in-Err-clause-failed
 returns-in-Err-clause-failed g c is =
