@@ -1,6 +1,6 @@
 //! The command `serve DIR ADDR --sessions N`: a session with each of the nodes that dial.
 
-ghost use Rattle.std.specs.Prelude.{◌≡◌, ◌≢◌, ◌<◌, IfOk, IsErrOf, IsTrue, Ok, OnOk};
+ghost use Rattle.std.specs.Prelude.{◌≡◌, ◌≢◌, ◌<◌, IfOk, IsErrOf, IsTrue, Ok, OnOk, true};
 ghost use Rattle.bec_disk.specs.declared.part.Part.TheVariants.{Peers as PeersPart};
 ghost use Rattle.bec_disk.specs.Shelf.{out};
 ghost use Rattle.net_commands.specs.Meetings.{RemembersAll, ServesStore};
