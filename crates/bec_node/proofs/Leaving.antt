@@ -117,17 +117,17 @@ message_no_stream key before random rest msg outcome signed after (sealed text s
 
 input_rose : (key : HssState) (before : ShelfState) (random rest : Stream) (left later : Option (List ℕ)) (old new : ℕ) (outcome : OutcomeOf SealRefusal) (signed : HssState) (after : ShelfState)
     → SealsInput key before random rest left later old new outcome signed after → outcome ≡ Err seals.Stream → Rose old new
-input_rose key before random rest left later old new outcome signed after (unread why fault is same kept undrawn) e = by fault (same_seal why seals.Stream (sym is ∙ e))
+input_rose key before random rest left later old new outcome signed after (unread why fault is same kept stays) e = by fault (same_seal why seals.Stream (sym is ∙ e))
   where
     by : IsInputFault old new why → why ≡ seals.Stream → Rose old new
     by (inl memory) stream = absurd (let other : seals.Memory ≡ seals.Stream = sym memory ∙ stream in cc)
     by (inr failed) stream = failed.1
-input_rose key before random rest left later old new outcome signed after (too_long long is same kept undrawn) e = absurd (let other = same_seal seals.InputTooLong seals.Stream (sym is ∙ e) in cc)
+input_rose key before random rest left later old new outcome signed after (too_long long is same kept stays) e = absurd (let other = same_seal seals.InputTooLong seals.Stream (sym is ∙ e) in cc)
 input_rose key before random rest left later old new outcome signed after (read_whole msg whole few spent message) e = absurd (message_no_stream key before random rest msg outcome signed after message e)
 
 sealed_rose : (dir : List ℕ) (before after : ShelfState) (random rest : Stream) (left later : Option (List ℕ)) (old new : ℕ) (outcome : OutcomeOf SealRefusal)
     → SealRun dir before after random rest left later old new outcome → outcome ≡ Err seals.Stream → Rose old new
-sealed_rose dir before after random rest left later old new outcome (unopened why cause reads same undrawn is) e = absurd (no_stream why 0 (same_seal (refusal_of why 0) seals.Stream (sym is ∙ e)))
+sealed_rose dir before after random rest left later old new outcome (unopened why cause reads same stays is) e = absurd (no_stream why 0 (same_seal (refusal_of why 0) seals.Stream (sym is ∙ e)))
 sealed_rose dir before after random rest left later old new outcome (opened key signed mid done opens sound input keeps closes) e = input_rose key mid random rest left later old new outcome signed done input e
 
 -- ---- commands over the source alone, and over a store that is only read
@@ -208,7 +208,7 @@ watched_store old new text store store_new source source_new (Some Unwritten) st
 watched_store old new text store store_new source source_new (Some (Refused refusal)) status cause (inl (inl whole)) e =
     subst (λ (r : Refusal). HasCause store store_new source source_new (Some (Refused r))) (refusal_store refusal (sym whole.0 ∙ e)) cause
 watched_store old new text store store_new source source_new (Some (Refused refusal)) status cause (inl (inr front)) e = absurd (let own = front.0 in omega (arith, e, own))
-watched_store old new text store store_new source source_new (Some (Refused refusal)) status cause (inr lacked) e = absurd (let own = lacked.1.0 in omega (arith, e, own))
+watched_store old new text store store_new source source_new (Some (Refused refusal)) status cause (inr lacked) e = absurd (let own = lacked.1 in omega (arith, e, own))
 
 watched_stream : (old new : SinkState) (text : List ℕ) (store store_new source source_new : ℕ) (stop : Option Stop) (status : ℕ) → HasCause store store_new source source_new stop → Says old new text stop status
     → status ≡ STREAM_FAULT → Rose source source_new ⊎ Rose old.faults new.faults
@@ -217,7 +217,7 @@ watched_stream old new text store store_new source source_new (Some Unwritten) s
 watched_stream old new text store store_new source source_new (Some (Refused refusal)) status cause (inl (inl whole)) e =
     inl (subst (λ (r : Refusal). HasCause store store_new source source_new (Some (Refused r))) (refusal_stream refusal (sym whole.0 ∙ e)) cause)
 watched_stream old new text store store_new source source_new (Some (Refused refusal)) status cause (inl (inr front)) e = inr front.1
-watched_stream old new text store store_new source source_new (Some (Refused refusal)) status cause (inr lacked) e = absurd (let own = lacked.1.0 in omega (arith, e, own))
+watched_stream old new text store store_new source source_new (Some (Refused refusal)) status cause (inr lacked) e = absurd (let own = lacked.1 in omega (arith, e, own))
 
 -- ---- requests of families without a net
 
