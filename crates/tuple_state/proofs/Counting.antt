@@ -67,7 +67,7 @@ module _ (state : State) (past : ℕ → Bool) (t : TableRow → Bool) where
   module _ (all : are_layered (rules_of_state state) (done_in state).inserted ≡ true) (some : are_layered (rules_of_state state) (done_then state past).inserted ≡ true)
       (rest : are_resting (rules_of_state state) (done_then state past).inserted ≡ true) where
     -- what is visible is of the past
-    seen_at : (place : ℕ) (it : Inserted) (b : Bool) → slice_get state.inserted place ≡ Some it → b ≡ (is_visible (rules_of_state state) (done_then state past) it.name && t (row_of it)) → seen_on it ≡ b
+    pub seen_at : (place : ℕ) (it : Inserted) (b : Bool) → slice_get state.inserted place ≡ Some it → b ≡ (is_visible (rules_of_state state) (done_then state past) it.name && t (row_of it)) → seen_on it ≡ b
     seen_at place it b at is =
         let g = done_then state past in
         let step : (p v : Bool) → past it.position ≡ p → is_visible (rules_of_state state) g it.name ≡ v → (p && (v && t (row_of it))) ≡ (v && t (row_of it)) =

@@ -1,5 +1,7 @@
 -- Tables before any update.
+use Rattle.tuple_state.specs.declared.groups.Groups.{Groups}
 use Rattle.tuple_state.specs.declared.shape.Shape.{Shape}
+use Rattle.tuple_state.specs.Grouped.{AreGroupsOf}
 use Rattle.std.proofs.Common.{◌≡◌, ℕ, List, [], length, refl, ap, arith}
 use Rattle.std.specs.Prelude.{count_by}
 use Rattle.std.specs.BTreeMap.{BTreeMap, is_at}
@@ -9,15 +11,14 @@ use Rattle.table_model.specs.Tables.{name_cmp}
 use Rattle.tuple_state.specs.Causes.{absent_times, ends_from, parents_from}
 use Rattle.table_model.specs.Visible.{Rules}
 use Rattle.tuple_state.specs.State.{IsStateOf}
-use Rattle.tuple_state.proofs.Grouping.{grouped_none}
 use Rattle.tuple_state.specs.Kept.{IsKept, are_layered, pairs_of}
 use Rattle.tuple_state.specs.Links.{Linked, is_of}
 
-pub kept_new : (rules : Rules) (shapes : List Shape) (places : BTreeMap RowName ℕ) (children deleters : Linked) → places.entries ≡ [] → children ≡ record { size = 0; links = [] } → deleters ≡ record { size = 0; links = [] }
+pub kept_new : (rules : Rules) (shapes : List Shape) (places : BTreeMap RowName ℕ) (children deleters : Linked) (groups : Groups) → AreGroupsOf shapes [] groups → places.entries ≡ [] → children ≡ record { size = 0; links = [] } → deleters ≡ record { size = 0; links = [] }
     → IsStateOf rules [] (record { shapes = shapes; count = 0; inserted = []; dropped = []; voids = [] })
-    → IsKept (record { shapes = shapes; count = 0; inserted = []; dropped = []; voids = [] }) places [] children deleters [] [] [] []
+    → IsKept (record { shapes = shapes; count = 0; inserted = []; dropped = []; voids = [] }) places [] children deleters [] groups
 unfolding are_layered ends_from parents_from
-kept_new rules shapes places children deleters none childless empty held = record {
+kept_new rules shapes places children deleters groups grouped none childless empty held = record {
   held = record { rules = rules; nodes = []; is = held };
   few = omega arith;
   bounded = λ len. omega arith;
@@ -29,10 +30,7 @@ kept_new rules shapes places children deleters none childless empty held = recor
       let a = ap (λ (d : Linked). count_by (is_of k) d.links) empty in
       let b = ap (λ (d : Linked). absent_times d.links [] k) childless in
       omega (arith, a, b);
-  grouped = grouped_none shapes [];
-  sized = λ keeps. refl;
-  spare = refl;
-  threaded = refl;
+  grouped = grouped;
   homes = ap (λ (d : Linked). d.size) childless;
   named = ap (λ (d : Linked). pairs_of d.links) childless;
   ended = refl;

@@ -1,10 +1,9 @@
 -- Groups of rows of one value.
-use Rattle.std.proofs.Common.{◌≡◌, ◌≢◌, ℕ, zero, suc, ◌+◌, ◌<◌, ◌≤◌, ◌==◌, Bool, true, false, ◌&&◌, List, [], ◌∷◌, ◌++◌, length, get_or, take, refl, sym, ap, ◌∙◌, subst, Some, None, is_none, length-append, arith, inl, inr, ◌⊎◌, nat_lt}
-use Rattle.std.specs.Prelude.{is_some, position, slice_get}
-use Rattle.std.specs.List.{list_any, position_from}
+use Rattle.std.proofs.Common.{◌≡◌, ◌≢◌, ℕ, zero, suc, ◌+◌, ◌<◌, ◌≤◌, ◌==◌, Bool, true, false, ◌&&◌, List, [], ◌∷◌, ◌++◌, length, get_or, take, refl, sym, ap, ◌∙◌, subst, Some, None, is_none, length-append, Option, arith, inl, inr, ◌⊎◌, nat_lt}
+use Rattle.std.specs.Prelude.{is_some, slice_get}
+use Rattle.std.specs.List.{list_any}
 use Rattle.std.proofs.lemmas.Bool.{and_parts, both_ways, eq-eqb, eqb-true, false_from_ne_true, or_parts}
 use Rattle.std.proofs.lemmas.Bool.Decides.{nat_tests}
-use Rattle.std.proofs.lemmas.Iterator.Adapters.{position_from-zero}
 use Rattle.update_model.proofs.Closed.{is_some-position}
 use Rattle.table_model.specs.Visible.{kept_of}
 use Rattle.table_model.proofs.EqualValues.{equal_back, equal_both, equal_on}
@@ -14,6 +13,7 @@ use Rattle.tuple_state.specs.declared.inserted.Inserted.{Inserted}
 use Rattle.tuple_state.specs.declared.shape.Shape.{Shape}
 use Rattle.tuple_state.specs.Least.{AreGrouped, are_equal}
 use Rattle.tuple_state.specs.State.{keep_any, rules_over}
+use Rattle.tuple_state.specs.Values.{alike_in, first_alike, has_at}
 use Rattle.tuple_state.proofs.Layers.{plain_shapes}
 use Rattle.tuple_state.proofs.Lookups.{found_at}
 
@@ -65,7 +65,7 @@ last_or k n h = elim (below_or k n) [ inl low ↦ inl low | inr high ↦ inr (om
 pub apart_or : (j k : ℕ) → j ≢ k → (j < k) ⊎ (k < j)
 apart_or j k ne = elim (below_or j k) [ inl low ↦ inl low | inr high ↦ inr (omega (arith, ne, high)) ]
 
-same_or : (j k : ℕ) → (j ≡ k) ⊎ (j ≢ k)
+pub same_or : (j k : ℕ) → (j ≡ k) ⊎ (j ≢ k)
 same_or j k =
     let step : (b : Bool) → (j == k) ≡ b → (j ≡ k) ⊎ (j ≢ k) = elim [ true ↦ λ e. inl (eqb-true j k e) | false ↦ λ e. inr (λ s. both_ways _ e (eq-eqb j k s)) ] in
     step (j == k) refl
@@ -75,7 +75,7 @@ same_or j k =
 equal_turned : (m n : ℕ) → (m == n) ≡ (n == m)
 equal_turned m n = bool_same (m == n) (n == m) (λ h. eq-eqb n m (sym (eqb-true m n h))) (λ h. eq-eqb m n (sym (eqb-true n m h)))
 
-some_kept : (shapes : List Shape) (number column : ℕ) → keep_any shapes ≡ false → kept_of (rules_over shapes) number ≡ Some column → ⊥
+pub some_kept : (shapes : List Shape) (number column : ℕ) → keep_any shapes ≡ false → kept_of (rules_over shapes) number ≡ Some column → ⊥
 some_kept shapes number column plain is = let none : is_none (Some column) ≡ true = ap is_none (sym is) ∙ plain_shapes shapes plain number in cc
 
 module _ (shapes : List Shape) (rows : List Inserted) (groups : List ℕ) (grouped : AreGrouped shapes rows groups) where
@@ -90,36 +90,57 @@ module _ (shapes : List Shape) (rows : List Inserted) (groups : List ℕ) (group
 
   -- one more row is in a group
   module _ (place : ℕ) (row : Inserted) (each : length groups ≡ place) (at : slice_get rows place ≡ Some row) where
-    pub grouped_with : (g : ℕ) → g ≤ place
+    pub grouped_with : (g : ℕ) → g ≤ place → (g < place → get_or groups g 0 ≡ g)
+        → ((j : ℕ) (a : Inserted) → j < place → slice_get rows j ≡ Some a → get_or groups j 0 ≡ g → a.entry.table ≡ row.entry.table)
         → ((j column : ℕ) (a : Inserted) → j < place → slice_get rows j ≡ Some a → a.entry.table ≡ row.entry.table → kept_of (rules_over shapes) row.entry.table ≡ Some column → (get_or groups j 0 == g) ≡ are_equal column a row)
         → AreGrouped shapes rows (groups ++ g ∷ [])
-    grouped_with g low alike = record {
-      inside = λ k below.
-          let len = length-append groups (g ∷ []) in
-          elim (last_or k (length groups) (omega (arith, below, len))) [
-            | inl old ↦ let e = get_or_left groups (g ∷ []) k 0 old in let h = grouped.inside k old in omega (arith, e, h)
-            | inr last ↦ let e = get_or_last groups g 0 k last in omega (arith, e, low, each, last)
+    grouped_with g low own apart alike =
+        let len = length-append groups (g ∷ []) in
+        let last_is : (k : ℕ) (b : Inserted) → k ≡ length groups → slice_get rows k ≡ Some b → b ≡ row =
+        λ k b last there. let same : Some b ≡ Some row = sym there ∙ ap (slice_get rows) (last ∙ each) ∙ at in cc in
+        let left : (k : ℕ) → k < length groups → get_or (groups ++ g ∷ []) k 0 ≡ get_or groups k 0 = λ k old. get_or_left groups (g ∷ []) k 0 old in
+        let here : (k : ℕ) → k ≡ length groups → get_or (groups ++ g ∷ []) k 0 ≡ g = λ k last. get_or_last groups g 0 k last in
+        let of_last : (j : ℕ) (a : Inserted) → j < length groups → slice_get rows j ≡ Some a → get_or (groups ++ g ∷ []) j 0 ≡ g → a.entry.table ≡ row.entry.table =
+        λ j a old there same. apart j a (omega (arith, old, each)) there (sym (left j old) ∙ same) in record {
+          inside = λ k below. elim (last_or k (length groups) (omega (arith, below, len))) [
+            | inl old ↦ let e = left k old in let h = grouped.inside k old in omega (arith, e, h)
+            | inr last ↦ let e = here k last in omega (arith, e, low, each, last)
           ];
-      alike = λ j k column a b lt below here there table is.
-          let len = length-append groups (g ∷ []) in
-          elim (last_or k (length groups) (omega (arith, below, len))) [
+          own = λ k below. elim (last_or k (length groups) (omega (arith, below, len))) [
             | inl old ↦
-                (λ i. get_or_left groups (g ∷ []) j 0 (omega (arith, lt, old)) i == get_or_left groups (g ∷ []) k 0 old i) ∙ grouped.alike j k column a b lt old here there table is
+                let h = grouped.inside k old in
+                ap (λ n. get_or (groups ++ g ∷ []) n 0) (left k old) ∙ left (get_or groups k 0) (omega (arith, h, old)) ∙ grouped.own k old ∙ sym (left k old)
             | inr last ↦
-                let same : Some b ≡ Some row = sym there ∙ ap (slice_get rows) (last ∙ each) ∙ at in
-                let one : b ≡ row = cc in
-                (λ i. get_or_left groups (g ∷ []) j 0 (omega (arith, lt, last)) i == get_or_last groups g 0 k last i)
-                ∙ alike j column a (omega (arith, lt, last, each)) here (table ∙ ap (λ (x : Inserted). x.entry.table) one) (ap (λ (x : Inserted). kept_of (rules_over shapes) x.entry.table) (sym one) ∙ is)
+                let root : get_or (groups ++ g ∷ []) g 0 ≡ g = elim (last_or g (length groups) (omega (arith, low, each))) [ inl old ↦ left g old ∙ own (omega (arith, old, each)) | inr end ↦ here g end ] in
+                ap (λ n. get_or (groups ++ g ∷ []) n 0) (here k last) ∙ root ∙ sym (here k last)
+          ];
+          apart = λ j k a b jn kn ja kb same. elim (last_or j (length groups) (omega (arith, jn, len))) [
+            | inl jo ↦ elim (last_or k (length groups) (omega (arith, kn, len))) [
+              | inl ko ↦ grouped.apart j k a b jo ko ja kb (sym (left j jo) ∙ same ∙ left k ko)
+              | inr kl ↦ of_last j a jo ja (same ∙ here k kl) ∙ ap (λ (x : Inserted). x.entry.table) (sym (last_is k b kl kb))
+            ]
+            | inr jl ↦ elim (last_or k (length groups) (omega (arith, kn, len))) [
+              | inl ko ↦ ap (λ (x : Inserted). x.entry.table) (last_is j a jl ja) ∙ sym (of_last k b ko kb (sym same ∙ here j jl))
+              | inr kl ↦ ap (λ (x : Inserted). x.entry.table) (last_is j a jl ja ∙ sym (last_is k b kl kb))
+            ]
+          ];
+          alike = λ j k column a b lt below ja kb table is. elim (last_or k (length groups) (omega (arith, below, len))) [
+            | inl old ↦ (λ i. left j (omega (arith, lt, old)) i == left k old i) ∙ grouped.alike j k column a b lt old ja kb table is
+            | inr last ↦
+                let one : b ≡ row = last_is k b last kb in
+                (λ i. left j (omega (arith, lt, last)) i == here k last i)
+                ∙ alike j column a (omega (arith, lt, last, each)) ja (table ∙ ap (λ (x : Inserted). x.entry.table) one) (ap (λ (x : Inserted). kept_of (rules_over shapes) x.entry.table) (sym one) ∙ is)
                 ∙ ap (are_equal column a) (sym one)
           ];
-    }
+        }
 
     -- that of an earlier one with its value
     pub grouped_there : (other column : ℕ) (o : Inserted) → other < place → slice_get rows other ≡ Some o → o.entry.table ≡ row.entry.table → kept_of (rules_over shapes) row.entry.table ≡ Some column → are_equal column o row ≡ true
         → AreGrouped shapes rows (groups ++ get_or groups other 0 ∷ [])
     grouped_there other column o below here table is same =
         let inside = grouped.inside other (omega (arith, below, each)) in
-        grouped_with (get_or groups other 0) (omega (arith, inside, below))
+        grouped_with (get_or groups other 0) (omega (arith, inside, below)) (λ root. grouped.own other (omega (arith, below, each)))
+        (λ j a low there eq. grouped.apart j other a o (omega (arith, low, each)) (omega (arith, below, each)) there here eq ∙ table)
         (λ j c a low there ta ic.
         let one : Some column ≡ Some c = sym is ∙ ic in
         let col : column ≡ c = cc in
@@ -146,11 +167,12 @@ module _ (shapes : List Shape) (rows : List Inserted) (groups : List ℕ) (group
     pub grouped_alone : ((j column : ℕ) (a : Inserted) → j < place → slice_get rows j ≡ Some a → a.entry.table ≡ row.entry.table → kept_of (rules_over shapes) row.entry.table ≡ Some column → are_equal column a row ≡ false)
         → AreGrouped shapes rows (groups ++ place ∷ [])
     grouped_alone none =
-        grouped_with place (omega arith) (λ j column a low there table is.
+        grouped_with place (omega arith) (λ root. absurd (omega (arith, root)))
+        (λ j a low there eq. let inside = grouped.inside j (omega (arith, low, each)) in absurd (omega (arith, eq, inside, low))) (λ j column a low there table is.
         let inside = grouped.inside j (omega (arith, low, each)) in
         false_from_ne_true _ (λ e. let same = eqb-true (get_or groups j 0) place e in absurd (omega (arith, same, inside, low))) ∙ sym (none j column a low there table is))
 
-none_passes : {X : Type 0} (t : X → Bool) (xs : List X) (j : ℕ) (x : X) → list_any t xs ≡ false → slice_get xs j ≡ Some x → t x ≡ false
+pub none_passes : {X : Type 0} (t : X → Bool) (xs : List X) (j : ℕ) (x : X) → list_any t xs ≡ false → slice_get xs j ≡ Some x → t x ≡ false
 none_passes t [] j x h at = absurd (cc)
 none_passes t (y ∷ xs) zero x h at = let same : y ≡ x = cc in ap t (sym same) ∙ (or_parts (t y) _ h).0
 none_passes t (y ∷ xs) (suc j) x h at = none_passes t xs j x (or_parts (t y) _ h).1 at
@@ -168,68 +190,79 @@ front_len (suc n) (x ∷ xs) = let rest = front_len n xs in omega (arith, rest)
 
 -- the group of the row at a place is found
 module _ (shapes : List Shape) (rows : List Inserted) (groups : List ℕ) (grouped : AreGrouped shapes rows groups) (place : ℕ) (row : Inserted) (each : length groups ≡ place) (at : slice_get rows place ≡ Some row) where
-  pub alike_found : (column other : ℕ) → kept_of (rules_over shapes) row.entry.table ≡ Some column → (r : Inserted) → r ≡ row → position (λ (o : Inserted). (o.entry.table == r.entry.table) && are_equal column o r) (take place rows) ≡ Some other
-      → AreGrouped shapes rows (groups ++ get_or groups other 0 ∷ [])
-  alike_found column other is r own g =
-      let h : position_from (λ (o : Inserted). (o.entry.table == row.entry.table) && are_equal column o row) 0 (take place rows) ≡ Some other =
-      sym (position_from-zero (λ (o : Inserted). (o.entry.table == row.entry.table) && are_equal column o row) (take place rows))
-      ∙ ap (λ (x : Inserted). position (λ (o : Inserted). (o.entry.table == x.entry.table) && are_equal column o x) (take place rows)) (sym own) ∙ g in
-      let f = found_at (λ (o : Inserted). (o.entry.table == row.entry.table) && are_equal column o row) 0 (take place rows) other h in
-      let len = front_len place rows in
-      let same : f.off ≡ other = omega (arith, f.is) in
-      let parts = and_parts (f.it.entry.table == row.entry.table) _ f.passes in
-      grouped_there shapes rows groups grouped place row each at other column f.it (omega (arith, f.below, len, same)) (ap (slice_get rows) (sym same) ∙ slice_get_front place rows f.off f.it f.at)
-      (eqb-true f.it.entry.table row.entry.table parts.0) is parts.1
+  pub alike_before : (other : ℕ) → first_alike shapes (take place rows) row ≡ Some other → other < place
+  alike_before other g =
+      let step : (o : Option ℕ) → alike_in (take place rows) row o ≡ Some other → other < place = elim [
+        | None ↦ λ h. absurd cc
+        | Some column ↦ λ h.
+            let f = found_at (has_at row.entry.table column (value_at row.entry.values column)) 0 (take place rows) other h in
+            let len = front_len place rows in
+            omega (arith, f.is, f.below, len)
+      ] in
+      step (kept_of (rules_over shapes) row.entry.table) g
 
-  pub alike_none : (column : ℕ) → kept_of (rules_over shapes) row.entry.table ≡ Some column → (r : Inserted) → r ≡ row → position (λ (o : Inserted). (o.entry.table == r.entry.table) && are_equal column o r) (take place rows) ≡ None
-      → AreGrouped shapes rows (groups ++ place ∷ [])
-  alike_none column is r own g =
-      let h : position_from (λ (o : Inserted). (o.entry.table == row.entry.table) && are_equal column o row) 0 (take place rows) ≡ None =
-      sym (position_from-zero (λ (o : Inserted). (o.entry.table == row.entry.table) && are_equal column o row) (take place rows))
-      ∙ ap (λ (x : Inserted). position (λ (o : Inserted). (o.entry.table == x.entry.table) && are_equal column o x) (take place rows)) (sym own) ∙ g in
-      grouped_alone shapes rows groups grouped place row each at (λ j c a low there table ic.
-      let one : Some column ≡ Some c = sym is ∙ ic in
-      let col : column ≡ c = cc in
-      let none : list_any (λ (o : Inserted). (o.entry.table == row.entry.table) && are_equal column o row) (take place rows) ≡ false =
-      sym (is_some-position (λ (o : Inserted). (o.entry.table == row.entry.table) && are_equal column o row) 0 (take place rows)) ∙ ap is_some h in
-      let out = none_passes (λ (o : Inserted). (o.entry.table == row.entry.table) && are_equal column o row) (take place rows) j a none (slice_get_within place rows j a low there) in
-      ap (λ n. are_equal n a row) (sym col) ∙ sym (ap (λ b. b && are_equal column a row) (eq-eqb a.entry.table row.entry.table table)) ∙ out)
+  pub alike_found : (other : ℕ) → first_alike shapes (take place rows) row ≡ Some other → AreGrouped shapes rows (groups ++ get_or groups other 0 ∷ [])
+  alike_found other g =
+      let step : (o : Option ℕ) → kept_of (rules_over shapes) row.entry.table ≡ o → alike_in (take place rows) row o ≡ Some other → AreGrouped shapes rows (groups ++ get_or groups other 0 ∷ []) = elim [
+        | None ↦ λ is h. absurd cc
+        | Some column ↦ λ is h.
+            let f = found_at (has_at row.entry.table column (value_at row.entry.values column)) 0 (take place rows) other h in
+            let len = front_len place rows in
+            let same : f.off ≡ other = omega (arith, f.is) in
+            let parts = and_parts (f.it.entry.table == row.entry.table) _ f.passes in
+            grouped_there shapes rows groups grouped place row each at other column f.it (omega (arith, f.below, len, same)) (ap (slice_get rows) (sym same) ∙ slice_get_front place rows f.off f.it f.at)
+            (eqb-true f.it.entry.table row.entry.table parts.0) is parts.1
+      ] in
+      step (kept_of (rules_over shapes) row.entry.table) refl g
 
-  pub alike_plain : kept_of (rules_over shapes) row.entry.table ≡ None → AreGrouped shapes rows (groups ++ place ∷ [])
-  alike_plain none =
-      grouped_alone shapes rows groups grouped place row each at (λ j c a low there table ic. let two : None ≡ Some c = sym none ∙ ic in absurd cc)
+  pub alike_none : first_alike shapes (take place rows) row ≡ None → AreGrouped shapes rows (groups ++ place ∷ [])
+  alike_none g =
+      let step : (o : Option ℕ) → kept_of (rules_over shapes) row.entry.table ≡ o → alike_in (take place rows) row o ≡ None → AreGrouped shapes rows (groups ++ place ∷ []) = elim [
+        | None ↦ λ is h.
+            grouped_alone shapes rows groups grouped place row each at (λ j c a low there table ic. let two : None ≡ Some c = sym is ∙ ic in absurd cc)
+        | Some column ↦ λ is h.
+            grouped_alone shapes rows groups grouped place row each at (λ j c a low there table ic.
+            let one : Some column ≡ Some c = sym is ∙ ic in
+            let col : column ≡ c = cc in
+            let none : list_any (has_at row.entry.table column (value_at row.entry.values column)) (take place rows) ≡ false =
+            sym (is_some-position (has_at row.entry.table column (value_at row.entry.values column)) 0 (take place rows)) ∙ ap is_some h in
+            let out = none_passes (has_at row.entry.table column (value_at row.entry.values column)) (take place rows) j a none (slice_get_within place rows j a low there) in
+            ap (λ n. are_equal n a row) (sym col) ∙ sym (ap (λ b. b && are_equal column a row) (eq-eqb a.entry.table row.entry.table table)) ∙ out)
+      ] in
+      step (kept_of (rules_over shapes) row.entry.table) refl g
 
 -- those of the first rows
 pub grouped_front : (shapes : List Shape) (rows : List Inserted) (groups : List ℕ) (n : ℕ) → AreGrouped shapes rows groups → AreGrouped shapes (take n rows) (take n groups)
-grouped_front shapes rows groups n grouped = record {
-  inside = λ k below.
-      let e = get_or_front n groups k 0 below in
-      let fewer = front_shorter n groups in
-      let h = grouped.inside k (omega (arith, below, fewer)) in
-      omega (arith, e, h);
-  alike = λ j k column a b lt below here there table is.
-      let fewer = front_shorter n groups in
-      (λ i. get_or_front n groups j 0 (omega (arith, lt, below)) i == get_or_front n groups k 0 below i)
-      ∙ grouped.alike j k column a b lt (omega (arith, below, fewer)) (slice_get_front n rows j a here) (slice_get_front n rows k b there) table is;
-}
+grouped_front shapes rows groups n grouped =
+    let fewer = front_shorter n groups in
+    let front : (k : ℕ) → k < length (take n groups) → get_or (take n groups) k 0 ≡ get_or groups k 0 = λ k below. get_or_front n groups k 0 below in record {
+      inside = λ k below. let e = front k below in let h = grouped.inside k (omega (arith, below, fewer)) in omega (arith, e, h);
+      own = λ k below.
+          let h = grouped.inside k (omega (arith, below, fewer)) in
+          ap (λ m. get_or (take n groups) m 0) (front k below) ∙ front (get_or groups k 0) (omega (arith, h, below)) ∙ grouped.own k (omega (arith, below, fewer)) ∙ sym (front k below);
+      apart = λ j k a b jn kn here there same.
+          grouped.apart j k a b (omega (arith, jn, fewer)) (omega (arith, kn, fewer)) (slice_get_front n rows j a here) (slice_get_front n rows k b there) (sym (front j jn) ∙ same ∙ front k kn);
+      alike = λ j k column a b lt below here there table is.
+          (λ i. front j (omega (arith, lt, below)) i == front k below i)
+          ∙ grouped.alike j k column a b lt (omega (arith, below, fewer)) (slice_get_front n rows j a here) (slice_get_front n rows k b there) table is;
+    }
 
 -- those that are known, where more rows come
-pub grouped_more : (shapes : List Shape) (rows news : List Inserted) (groups : List ℕ) → (keep_any shapes ≡ true → length groups ≡ length rows) → AreGrouped shapes rows groups → AreGrouped shapes (rows ++ news) groups
-grouped_more shapes rows news groups sized grouped = record {
+pub grouped_more : (shapes : List Shape) (rows news : List Inserted) (groups : List ℕ) → length groups ≤ length rows → AreGrouped shapes rows groups → AreGrouped shapes (rows ++ news) groups
+grouped_more shapes rows news groups few grouped = record {
   inside = grouped.inside;
+  own = grouped.own;
+  apart = λ j k a b jn kn here there same.
+      grouped.apart j k a b jn kn (slice_get_old rows news j a (omega (arith, jn, few)) here) (slice_get_old rows news k b (omega (arith, kn, few)) there) same;
   alike = λ j k column a b lt below here there table is.
-      let step : (c : Bool) → keep_any shapes ≡ c → (get_or groups j 0 == get_or groups k 0) ≡ are_equal column a b = elim [
-        | true ↦ λ e.
-            let len = sized e in
-            grouped.alike j k column a b lt below (slice_get_old rows news j a (omega (arith, lt, below, len)) here) (slice_get_old rows news k b (omega (arith, below, len)) there) table is
-        | false ↦ λ e. absurd (some_kept shapes b.entry.table column e is)
-      ] in
-      step (keep_any shapes) refl;
+      grouped.alike j k column a b lt below (slice_get_old rows news j a (omega (arith, lt, below, few)) here) (slice_get_old rows news k b (omega (arith, below, few)) there) table is;
 }
 
 pub grouped_none : (shapes : List Shape) (rows : List Inserted) → AreGrouped shapes rows []
 grouped_none shapes rows = record {
   inside = λ k below. absurd (omega (arith, below));
+  own = λ k below. absurd (omega (arith, below));
+  apart = λ j k a b jn kn here there same. absurd (omega (arith, jn));
   alike = λ j k column a b lt below here there table is. absurd (omega (arith, below));
 }
 

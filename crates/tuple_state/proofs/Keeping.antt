@@ -18,7 +18,9 @@ use Rattle.table_model.specs.Visible.{Effects, Rules, same_row, table_of}
 use Rattle.table_model.proofs.Order.{any_weaker}
 use Rattle.table_model.proofs.Founded.{all_weaker, erasable, founded_closed}
 use Rattle.tuple_state.specs.declared.dropped.Dropped.{Dropped}
+use Rattle.tuple_state.specs.declared.groups.Groups.{Groups}
 use Rattle.tuple_state.specs.declared.inserted.Inserted.{Inserted}
+use Rattle.tuple_state.specs.Grouped.{AreGroupsOf}
 use Rattle.tuple_state.specs.Kept.{IsKept, are_layered, deletes_at, is_named, pairs_of, place_of}
 use Rattle.tuple_state.specs.Causes.{AreRising, absent_times, ends_from, parents_from}
 use Rattle.tuple_state.specs.Least.{AreGrouped, AreLevel, AreSettled, is_free}
@@ -77,7 +79,7 @@ news_of state node = map (inserted_at state.count) (reverse (effects_of node).in
 abbrev pub drops_of : State → NodeData → List Dropped
 drops_of state node = map (dropped_at state.count) (reverse (effects_of node).deleted)
 
-module _ {state : State} {node : NodeData} {places : BTreeMap RowName ℕ} {causes : List ℕ} {children deleters : Linked} {ends groups : List ℕ} {least : List (Option ℕ)} {nexts : List ℕ} (kept : IsKept state places causes children deleters ends groups least nexts) (next : IsNextVerdict state node verdict.Valid) where
+module _ {state : State} {node : NodeData} {places : BTreeMap RowName ℕ} {causes : List ℕ} {children deleters : Linked} {ends : List ℕ} {groups : Groups} (kept : IsKept state places causes children deleters ends groups) (next : IsNextVerdict state node verdict.Valid) where
   abbrev news : List Inserted
   news = news_of state node
 
@@ -179,13 +181,13 @@ module _ {state : State} {node : NodeData} {places : BTreeMap RowName ℕ} {caus
         (λ name k found. (row_found whole name k found).below)
 
     -- what is kept after a valid update
-    pub kept_next : IsNode node → (after_places : BTreeMap RowName ℕ) (size : ℕ) (after_causes more_ends after_groups : List ℕ) (after_least : List (Option ℕ)) (after_nexts : List ℕ) (names : List Link)
+    pub kept_next : IsNode node → (after_places : BTreeMap RowName ℕ) (size : ℕ) (after_causes more_ends : List ℕ) (after_groups : Groups) (names : List Link)
         → ((name : RowName) → get name_cmp after_places name ≡ place_of whole name) → pairs_of names ≡ deletes_at (place_of whole) drops → more_ends ≡ ends_from (rules_of_state state) (length (parents_from (rules_of_state state) 0 state.inserted)) news → size ≡ length whole → length after_causes ≡ length whole
         → length (children.links ++ refs) ≤ 536870912 → length (deleters.links ++ names) ≤ 536870912
         → AreSettled state.shapes whole (children.links ++ refs) (λ k. count_by (is_of k) (deleters.links ++ names)) after_causes
-        → AreGrouped state.shapes whole after_groups → (keep_any state.shapes ≡ true → length after_groups ≡ length whole) → length after_least ≡ length after_groups → length after_nexts ≡ length after_groups
-        → IsKept (after state node verdict.Valid) after_places after_causes (record { size = size; links = children.links ++ refs }) (record { size = size; links = deleters.links ++ names }) (ends ++ more_ends) after_groups after_least after_nexts
-    kept_next small after_places size after_causes more_ends after_groups after_least after_nexts names placed names_are ended sized len few_children few_deleters counts grouped all spare threaded = record {
+        → AreGroupsOf state.shapes whole after_groups
+        → IsKept (after state node verdict.Valid) after_places after_causes (record { size = size; links = children.links ++ refs }) (record { size = size; links = deleters.links ++ names }) (ends ++ more_ends) after_groups
+    kept_next small after_places size after_causes more_ends after_groups names placed names_are ended sized len few_children few_deleters counts grouped = record {
       held = record { rules = next.rules; nodes = node ∷ next.nodes; is = state_next state node verdict.Valid next };
       few = omega (arith, count_few);
       bounded = λ len. bounded_next state.inserted (reverse (effects_of node).inserted) state.count len kept.dated kept.bounded (news_few small);
@@ -195,9 +197,6 @@ module _ {state : State} {node : NodeData} {places : BTreeMap RowName ℕ} {caus
       each = len;
       counted = counts;
       grouped = grouped;
-      sized = all;
-      spare = spare;
-      threaded = threaded;
       homes = sized;
       named = named_next;
       ended = ended_next more_ends ended;

@@ -7,6 +7,7 @@ pub mod Effects
 pub mod Emptiness
 pub mod Finding
 pub mod Fronts
+pub mod Gathering
 pub mod Grouping
 pub mod Growth
 pub mod Holding
@@ -35,6 +36,8 @@ pub mod Shortening
 pub mod Spans
 pub mod Starting
 pub mod Stepping
+pub mod Tallying
 pub mod Threading
+pub mod Valuing
 pub mod Voiding
 pub mod Walking

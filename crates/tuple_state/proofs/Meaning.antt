@@ -13,6 +13,7 @@ use Rattle.table_model.proofs.Members.{any_mapped, any_reversed}
 use Rattle.table_model.proofs.Settled.{are_resting, shows_none, shows_one, visible_only}
 use Rattle.table_model.proofs.Standing.{row_from_same, same_row-refl}
 use Rattle.tuple_state.specs.declared.dropped.Dropped.{Dropped}
+use Rattle.tuple_state.specs.declared.groups.Groups.{Groups}
 use Rattle.tuple_state.specs.declared.inserted.Inserted.{Inserted}
 use Rattle.tuple_state.specs.declared.links.Link.{Link}
 use Rattle.tuple_state.specs.Causes.{absent_times, is_absent, parents_from}
@@ -313,7 +314,7 @@ all_kept : {X : Type 0} (xs : List X) → filter (λ x. true) xs ≡ xs
 all_kept [] = refl
 all_kept (x ∷ xs) = ap (λ l. x ∷ l) (all_kept xs)
 
-module _ (state : State) (places : BTreeMap RowName ℕ) (causes : List ℕ) (children deleters : Linked) (ends groups : List ℕ) (least : List (Option ℕ)) (nexts : List ℕ) (kept : IsKept state places causes children deleters ends groups least nexts) where
+module _ (state : State) (places : BTreeMap RowName ℕ) (causes : List ℕ) (children deleters : Linked) (ends : List ℕ) (groups : Groups) (kept : IsKept state places causes children deleters ends groups) where
   abbrev names_gone : List RowName
   names_gone = reverse (map (λ (d : Dropped). d.name) state.dropped)
 

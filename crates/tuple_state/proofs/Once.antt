@@ -17,6 +17,7 @@ use Rattle.table_model.proofs.Members.{contains_mapped, contains_turned}
 use Rattle.table_model.proofs.Standing.{row_from_same, same_row-refl}
 use Rattle.tuple_state.specs.Absence.{causes_of}
 use Rattle.tuple_state.specs.declared.dropped.Dropped.{Dropped}
+use Rattle.tuple_state.specs.declared.groups.Groups.{Groups}
 use Rattle.tuple_state.specs.declared.inserted.Inserted.{Inserted}
 use Rattle.tuple_state.specs.Kept.{IsKept, place_of}
 use Rattle.tuple_state.specs.Links.{Linked}
@@ -123,12 +124,12 @@ module _ (rules : Rules) (nodes : List NodeData) (state : State) (held : IsState
       (at_member (λ x. AllByRecursion (λ y. same_row x.name y.name ≡ true → x ≡ y) rows) rows row each inside) also
       (subst (λ (n : RowName). same_row row.name n ≡ true) named (same_row-refl row.name))
 
-  pub causes_now : (places : BTreeMap RowName ℕ) (causes : List ℕ) (children deleters : Linked) (ends groups : List ℕ) (least : List (Option ℕ)) (nexts : List ℕ) → IsKept state places causes children deleters ends groups least nexts → (name : RowName) (k n : ℕ) → place_of state.inserted name ≡ Some k
+  pub causes_now : (places : BTreeMap RowName ℕ) (causes : List ℕ) (children deleters : Linked) (ends : List ℕ) (groups : Groups) → IsKept state places causes children deleters ends groups → (name : RowName) (k n : ℕ) → place_of state.inserted name ≡ Some k
       → n ≡ get_or causes k n → (row : TableRow) → Contains (effects_in rules nodes).inserted row → row.name ≡ name → n ≡ causes_of rules nodes row
-  causes_now places causes children deleters ends groups least nexts kept name k n found is row inside named =
+  causes_now places causes children deleters ends groups kept name k n found is row inside named =
       let at = row_found state.inserted name k found in
       let same = same_found k at.it row at.at inside (named ∙ sym at.name_is) in
-      is ∙ default_free causes k n 0 (omega (arith, at.below, kept.each)) ∙ causes_kept state places causes children deleters ends groups least nexts kept k at.it at.at
+      is ∙ default_free causes k n 0 (omega (arith, at.below, kept.each)) ∙ causes_kept state places causes children deleters ends groups kept k at.it at.at
       ∙ (λ i. (dropped_counted at.it.name i + count_by (λ (r : RowRef). not (visible_now rules nodes state held r.name i)) (same_cascade (shapes_same rules nodes state held) (row_of at.it) i))
       + one_where (not ((same_least (shapes_same rules nodes state held) (done_in state) (is_visible (rules_of_state state) (done_in state)) (is_visible rules (effects_in rules nodes)) (visible_now rules nodes state held) (row_of at.it)
       ∙ ap (λ (g : Effects). is_least rules g (is_visible rules (effects_in rules nodes)) (row_of at.it)) (did_same rules nodes state held)) i)))

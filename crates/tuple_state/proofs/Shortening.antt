@@ -11,9 +11,11 @@ use Rattle.update_model.specs.declared.row_name.RowName.{RowName}
 use Rattle.update_model.specs.declared.limits.TheConstants.{MAX_MEMBERS}
 use Rattle.table_model.specs.Tables.{name_cmp}
 use Rattle.tuple_state.specs.declared.dropped.Dropped.{Dropped}
+use Rattle.tuple_state.specs.declared.groups.Groups.{Groups}
 use Rattle.tuple_state.specs.declared.inserted.Inserted.{Inserted}
 use Rattle.tuple_state.specs.declared.links.Link.{Link}
 use Rattle.tuple_state.specs.declared.voided.Voided.{Voided}
+use Rattle.tuple_state.specs.Grouped.{AreGroupsOf}
 use Rattle.tuple_state.specs.Kept.{IsKept, are_layered, deletes_at, pairs_of, place_of}
 use Rattle.tuple_state.specs.Causes.{AreRising, absent_times, ends_from, parents_from}
 use Rattle.tuple_state.specs.Least.{AreGrouped, AreLevel, AreSettled, is_free, passed_by}
@@ -31,9 +33,9 @@ use Rattle.tuple_state.proofs.Spans.{ends-take}
 
 -- ---- the rest stays
 
-pub kept_places : {state : State} {places : BTreeMap RowName ℕ} (after_places : BTreeMap RowName ℕ) {causes : List ℕ} {children after_children deleters after_deleters : Linked} {ends groups : List ℕ} {least : List (Option ℕ)} {nexts : List ℕ} → IsKept state places causes children deleters ends groups least nexts
-    → ((name : RowName) → get name_cmp after_places name ≡ place_of state.inserted name) → after_children ≡ children → after_deleters ≡ deleters → IsKept state after_places causes after_children after_deleters ends groups least nexts
-kept_places {state} after_places {causes} kept placed alike same = record {
+pub kept_places : {state : State} {places : BTreeMap RowName ℕ} (after_places : BTreeMap RowName ℕ) {causes : List ℕ} {children after_children deleters after_deleters : Linked} {ends : List ℕ} {groups : Groups} (after_groups : Groups) → IsKept state places causes children deleters ends groups → AreGroupsOf state.shapes state.inserted after_groups
+    → ((name : RowName) → get name_cmp after_places name ≡ place_of state.inserted name) → after_children ≡ children → after_deleters ≡ deleters → IsKept state after_places causes after_children after_deleters ends after_groups
+kept_places {state} after_places {causes} after_groups kept grouped placed alike same = record {
   held = kept.held;
   few = kept.few;
   bounded = kept.bounded;
@@ -45,10 +47,7 @@ kept_places {state} after_places {causes} kept placed alike same = record {
       kept.counted k
       ∙ (λ i. (count_by (is_of k) (sym same i).links + absent_times (sym alike i).links causes k)
       + passed_by state.shapes state.inserted (is_free (λ n. count_by (is_of n) (sym same i).links) (sym alike i).links causes) (slice_get state.inserted k));
-  grouped = kept.grouped;
-  sized = kept.sized;
-  spare = kept.spare;
-  threaded = kept.threaded;
+  grouped = grouped;
   homes = ap (λ (d : Linked). d.size) alike ∙ kept.homes;
   named = ap (λ (d : Linked). pairs_of d.links) alike ∙ kept.named;
   ended = kept.ended;
@@ -58,9 +57,9 @@ kept_places {state} after_places {causes} kept placed alike same = record {
   deleted = ap (λ (d : Linked). pairs_of d.links) same ∙ kept.deleted;
 }
 
-pub kept_void : (state : State) (places : BTreeMap RowName ℕ) (causes : List ℕ) (children deleters : Linked) (ends groups : List ℕ) (least : List (Option ℕ)) (nexts : List ℕ) (voids : List Voided) → IsKept state places causes children deleters ends groups least nexts → state.count < MAX_MEMBERS
-    → IsHeld (record state { count = state.count + 1; voids = voids }) → IsKept (record state { count = state.count + 1; voids = voids }) places causes children deleters ends groups least nexts
-kept_void state places causes children deleters ends groups least nexts voids kept few held = record {
+pub kept_void : (state : State) (places : BTreeMap RowName ℕ) (causes : List ℕ) (children deleters : Linked) (ends : List ℕ) (groups : Groups) (voids : List Voided) → IsKept state places causes children deleters ends groups → state.count < MAX_MEMBERS
+    → IsHeld (record state { count = state.count + 1; voids = voids }) → IsKept (record state { count = state.count + 1; voids = voids }) places causes children deleters ends groups
+kept_void state places causes children deleters ends groups voids kept few held = record {
   held = held;
   few = omega (arith, few);
   bounded = kept.bounded;
@@ -70,9 +69,6 @@ kept_void state places causes children deleters ends groups least nexts voids ke
   each = kept.each;
   counted = kept.counted;
   grouped = kept.grouped;
-  sized = kept.sized;
-  spare = kept.spare;
-  threaded = kept.threaded;
   homes = kept.homes;
   named = kept.named;
   ended = kept.ended;
@@ -243,14 +239,14 @@ module _ {state : State} {len : ℕ} (whole : IsCut state len) where
       ap (take rows) ended ∙ ends-take (rules_of_state state) 0 rows state.inserted
       ∙ (λ i. ends_from (rules_over (shapes_stay i)) 0 (rows_taken rows is i))
 
-  pub kept_old : (places after_places : BTreeMap RowName ℕ) (causes after_causes : List ℕ) (children deleters : Linked) (ends groups after_groups : List ℕ) (least after_least : List (Option ℕ)) (nexts after_nexts : List ℕ) (rows names n : ℕ) → IsKept state places causes children deleters ends groups least nexts
+  pub kept_old : (places after_places : BTreeMap RowName ℕ) (causes after_causes : List ℕ) (children deleters : Linked) (ends : List ℕ) (groups after_groups : Groups) (rows names n : ℕ) → IsKept state places causes children deleters ends groups
       → rows ≡ count_by (λ (it : Inserted). nat_lt it.position len) state.inserted → names ≡ count_by (λ (it : Dropped). nat_lt it.position len) state.dropped
       → n ≡ count_by (λ (l : Link). nat_lt l.number rows) children.links
       → ((name : RowName) → get name_cmp after_places name ≡ place_of old.inserted name) → length after_causes ≡ length old.inserted
       → AreSettled old.shapes old.inserted (take n children.links) (λ k. count_by (is_of k) (take names deleters.links)) after_causes
-      → AreGrouped old.shapes old.inserted after_groups → (keep_any old.shapes ≡ true → length after_groups ≡ length old.inserted) → length after_least ≡ length after_groups → length after_nexts ≡ length after_groups
-      → IsKept old after_places after_causes (record { size = rows; links = take n children.links }) (record { size = rows; links = take names deleters.links }) (take rows ends) after_groups after_least after_nexts
-  kept_old places after_places causes after_causes children deleters ends groups after_groups least after_least nexts after_nexts rows names n kept is drops refs placed size counts grouped sized spare threaded = record {
+      → AreGroupsOf old.shapes old.inserted after_groups
+      → IsKept old after_places after_causes (record { size = rows; links = take n children.links }) (record { size = rows; links = take names deleters.links }) (take rows ends) after_groups
+  kept_old places after_places causes after_causes children deleters ends groups after_groups rows names n kept is drops refs placed size counts grouped = record {
     held = record { rules = rules; nodes = older; is = old_held };
     few = let a = count_is rules older in let b = ap (λ (s : State). s.count) held.is ∙ count_is rules (newer ++ older) in let c = length-append newer older in omega (arith, a, b, c, kept.few);
     bounded = λ n.
@@ -263,9 +259,6 @@ module _ {state : State} {len : ℕ} (whole : IsCut state len) where
     each = size;
     counted = counts;
     grouped = grouped;
-    sized = sized;
-    spare = spare;
-    threaded = threaded;
     homes = rows_len rows is;
     named = named_old children.links rows n kept.named is refs;
     ended = ended_old rows ends kept.ended is;

@@ -8,12 +8,14 @@ use Rattle.table_model.specs.Tables.{name_cmp}
 use Rattle.table_model.specs.Verdicts.{stands_among}
 use Rattle.table_model.specs.Visible.{Rules, TableRow, cascade_refs, kept_of, refs, same_row}
 use Rattle.tuple_state.specs.declared.dropped.Dropped.{Dropped}
+use Rattle.tuple_state.specs.declared.groups.Groups.{Groups}
 use Rattle.tuple_state.specs.declared.inserted.Inserted.{Inserted}
 use Rattle.tuple_state.specs.declared.links.Link.{Link}
 use Rattle.tuple_state.specs.Causes.{ends_from, parents_from}
-use Rattle.tuple_state.specs.Least.{AreGrouped, AreSettled}
+use Rattle.tuple_state.specs.Grouped.{AreGroupsOf}
+use Rattle.tuple_state.specs.Least.{AreSettled}
 use Rattle.tuple_state.specs.Links.{Linked, is_of}
-use Rattle.tuple_state.specs.State.{IsHeld, State, done_in, keep_any, rules_of_state}
+use Rattle.tuple_state.specs.State.{IsHeld, State, done_in, rules_of_state}
 
 -- whether one of these rows has this name
 abbrev pub is_named : List TableRow → RowName → Bool
@@ -52,7 +54,7 @@ deletes_at place dropped = map (λ (drop : Dropped). (place drop.name, drop.posi
 -- The tables hold what some nodes do. The rows are layered and each is found by its name. By its place the updates that delete it
 -- are found, the rows that name it by CASCADE, and those that it names. Its count is that of the updates, of the absent rows among
 -- the latter, and 1 where a lesser candidate has its value in a column of which its table keeps the least row.
-pub record IsKept (state : State) (places : BTreeMap RowName ℕ) (causes : List ℕ) (children deleters : Linked) (ends groups : List ℕ) (least : List (Option ℕ)) (nexts : List ℕ) : Type 0 where
+pub record IsKept (state : State) (places : BTreeMap RowName ℕ) (causes : List ℕ) (children deleters : Linked) (ends : List ℕ) (groups : Groups) : Type 0 where
   pub held : IsHeld state
   pub few : state.count ≤ MAX_MEMBERS
   pub bounded : (len : ℕ) → count_by (λ it. nat_lt it.position len) state.inserted ≤ 256 * len
@@ -61,10 +63,7 @@ pub record IsKept (state : State) (places : BTreeMap RowName ℕ) (causes : List
   pub placed : (name : RowName) → get name_cmp places name ≡ place_of state.inserted name
   pub each : length causes ≡ length state.inserted
   pub counted : AreSettled state.shapes state.inserted children.links (λ k. count_by (is_of k) deleters.links) causes
-  pub grouped : AreGrouped state.shapes state.inserted groups
-  pub sized : keep_any state.shapes ≡ true → length groups ≡ length state.inserted
-  pub spare : length least ≡ length groups
-  pub threaded : length nexts ≡ length groups
+  pub grouped : AreGroupsOf state.shapes state.inserted groups
   pub homes : children.size ≡ length state.inserted
   pub named : pairs_of children.links ≡ deletes_at (place_of state.inserted) (parents_from (rules_of_state state) 0 state.inserted)
   pub ended : ends ≡ ends_from (rules_of_state state) 0 state.inserted

@@ -55,10 +55,13 @@ pub record AreLevel (shapes : List Shape) (rows : List Inserted) (children : Lis
 abbrev pub are_equal : ℕ → Inserted → Inserted → Bool
 are_equal column a b = compares cmp.Eq (value_at a.entry.values column) (value_at b.entry.values column)
 
--- Two rows of one table that keeps the least row of each value are in one group exactly where they have one value. Groups number by
--- places of rows.
+-- Two rows of one table that keeps the least row of each value are in one group exactly where they have one value, and rows of two
+-- tables are in two. Groups number by places of rows, each by that of a row of its own.
 pub record AreGrouped (shapes : List Shape) (rows : List Inserted) (groups : List ℕ) : Type 0 where
   pub inside : (k : ℕ) → k < length groups → slice_index_or groups k 0 ≤ k
+  pub own : (k : ℕ) → k < length groups → slice_index_or groups (slice_index_or groups k 0) 0 ≡ slice_index_or groups k 0
+  pub apart : (j k : ℕ) (a b : Inserted) → j < length groups → k < length groups → slice_get rows j ≡ Some a → slice_get rows k ≡ Some b → slice_index_or groups j 0 ≡ slice_index_or groups k 0
+      → a.entry.table ≡ b.entry.table
   pub alike : (j k column : ℕ) (a b : Inserted) → j < k → k < length groups → slice_get rows j ≡ Some a → slice_get rows k ≡ Some b → a.entry.table ≡ b.entry.table
       → kept_of (rules_over shapes) b.entry.table ≡ Some column → (slice_index_or groups j 0 == slice_index_or groups k 0) ≡ are_equal column a b
 

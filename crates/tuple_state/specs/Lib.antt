@@ -2,7 +2,9 @@ pub mod Absence
 pub mod Arrived
 pub mod Causes
 pub mod Changes
+pub mod Grouped
 pub mod Kept
+pub mod Known
 pub mod Least
 pub mod Links
 pub mod Parents
@@ -11,3 +13,4 @@ pub mod Showing
 pub mod State
 pub mod Steps
 pub mod Threads
+pub mod Values

@@ -1,5 +1,6 @@
 -- The rows that are visible after the ancestors of one update, and what they answer.
 use Rattle.std.specs.Prelude.{◌≡◌, ℕ, ◌<◌, ◌==◌, Bool, true, false, ◌&&◌, List, ◌∷◌, ◌++◌, count_by, filter, length, map, reverse, Option, Some, slice_get, slice_index_or}
+use Rattle.std.specs.List.{position_from}
 use Rattle.update_model.specs.declared.row_entry.RowEntry.{RowEntry}
 use Rattle.update_model.specs.declared.row_name.RowName.{RowName}
 use Rattle.update_model.specs.declared.value.Value.{Value}
@@ -9,13 +10,15 @@ use Rattle.row_check.specs.Meaning.{value_at}
 use Rattle.table_model.specs.declared.verdict.Verdict.{Verdict}
 use Rattle.table_model.specs.Nodes.{IsNext}
 use Rattle.table_model.specs.Verdicts.{ancestor_of, effects, in_table, judge_next, judged}
-use Rattle.table_model.specs.Visible.{Effects, Rules, TableRow, is_visible, visible_rows}
+use Rattle.table_model.specs.Visible.{Effects, Rules, TableRow, is_visible, kept_of, visible_rows}
 use Rattle.row_check.specs.declared.cmp.Cmp.TheVariants as cmp
 use Rattle.row_check.specs.Comparisons.{compares}
 use Rattle.table_model.specs.Answers.{entry_in, has_child_in}
 use Rattle.tuple_state.specs.declared.inserted.Inserted.{Inserted}
+use Rattle.tuple_state.specs.declared.known.Known.{Known}
 use Rattle.tuple_state.specs.Parents.{passes_row}
 use Rattle.tuple_state.specs.State.{IsStateOf, State, done_in, keep_any, row_of, rules_of_state}
+use Rattle.tuple_state.specs.Values.{has_at}
 
 -- This verdict is the one on an update that is next in tables of fewer than 131,072 updates.
 pub record IsNextVerdict (state : State) (node : NodeData) (verdict : Verdict) : Type 0 where
@@ -70,10 +73,6 @@ AreCausesThen ancestor state position causes =
     (length causes ≡ length state.inserted)
     × ((place : ℕ) (it : Inserted) → slice_get state.inserted place ≡ Some it → (slice_index_or causes place 0 == 0) ≡ visible_at ancestor state position it.name)
 
--- Where a table keeps the least row of each value, such numbers are known.
-abbrev pub AreKnownThen : (ℕ → ℕ → Bool) → State → ℕ → List ℕ → Type 0
-AreKnownThen ancestor state position causes = keep_any state.shapes ≡ true → AreCausesThen ancestor state position causes
-
 -- the rows that are visible then
 abbrev pub visible_then : State → (ℕ → Bool) → List TableRow
 visible_then state past = visible_rows (rules_of_state state) (done_then state past)
@@ -94,3 +93,20 @@ equal_then state past table column value =
 -- how many visible rows a table has
 abbrev pub count_then : State → (ℕ → Bool) → ℕ → ℕ
 count_then state past table = count_by (in_table table) (visible_then state past)
+
+-- Of the first row that has a value in a column of which its table keeps the least row of each, this number is how many visible rows
+-- have it then.
+abbrev pub AreShownThen : (ℕ → ℕ → Bool) → State → ℕ → List ℕ → Type 0
+AreShownThen ancestor state moment shown =
+    (length shown ≡ length state.inserted)
+    × ((table column place : ℕ) (value : Value) → kept_of (rules_of_state state) table ≡ Some column → position_from (has_at table column value) 0 state.inserted ≡ Some place
+    → slice_index_or shown place 0 ≡ equal_then state (λ p. ancestor p moment) table column value)
+
+-- What is known of rows is so then.
+pub record IsKnownThen (ancestor : ℕ → ℕ → Bool) (state : State) (moment : ℕ) (known : Known) : Type 0 where
+  pub causes : AreCausesThen ancestor state moment known.causes.items
+  pub shown : AreShownThen ancestor state moment known.shown.items
+
+-- Where a table keeps the least row of each value, it is known.
+abbrev pub AreKnownThen : (ℕ → ℕ → Bool) → State → ℕ → Known → Type 0
+AreKnownThen ancestor state moment known = keep_any state.shapes ≡ true → IsKnownThen ancestor state moment known

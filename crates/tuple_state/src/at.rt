@@ -1,5 +1,5 @@
 ghost use Rattle.std.specs.Prelude.{◌≡◌, ◌<◌, true, false, ◌&&◌, IfOk, Some, length, slice_get};
-ghost use Rattle.table_model.specs.Visible.{refs, same_row};
+ghost use Rattle.table_model.specs.Visible.{kept_of, refs, same_row};
 ghost use Rattle.row_check.specs.declared.cmp.Cmp.TheVariants.{Eq};
 ghost use Rattle.row_check.specs.Comparisons.{compares};
 ghost use Rattle.row_check.specs.Meaning.{value_at};
@@ -13,6 +13,7 @@ ghost use Rattle.tuple_state.specs.Past.{row_then, visible_at};
 ghost use Rattle.tuple_state.specs.State.{done_in, keep_any, row_of, rules_of_state};
 
 use crate::Tables;
+use crate::known::Known;
 use std::alloc::{AllocError, Global};
 use std::collections::BTreeSet;
 use update_model::{Ancestors, RowEntry, RowName, RowsAt, Value};
@@ -24,9 +25,8 @@ pub struct At<'a, A: Ancestors> {
     tables: &'a Tables,
     ancestors: &'a A,
     position: u32,
-    /// Of each row a number that is 0 where it is visible then, where a table keeps the least row of each value, and
-    /// else nothing.
-    known: Vec<u32>,
+    /// What is known of the rows, where a table keeps the least row of each value, and else nothing.
+    known: Known,
     ghost founded: { are_layered (rules_of_state tables.now) (done_in tables.now).inserted ≡ true },
     ghost referred: { are_referred (rules_of_state tables.now) (done_in tables.now).inserted ≡ true },
     ghost lasting: { Lasts (A.ancestor ancestors.now) tables.now position },
@@ -34,24 +34,24 @@ pub struct At<'a, A: Ancestors> {
         (done_then tables.now (λ p. A.ancestor ancestors.now p position)).inserted ≡ true },
     ghost grounded: { are_grounded (rules_of_state tables.now)
         (done_then tables.now (λ p. A.ancestor ancestors.now p position)).inserted ≡ true },
-    ghost counted: { AreKnownThen (A.ancestor ancestors.now) tables.now position known.items },
+    ghost counted: { AreKnownThen (A.ancestor ancestors.now) tables.now position known },
 }
 
-/// Of each row a number that is 0 where it is visible after the ancestors of the update at this position, where a table
-/// keeps the least row of each value, and else nothing.
+/// What is known of the rows after the ancestors of the update at this position, where a table keeps the least row of
+/// each value, and else nothing.
 fn known_then<A: Ancestors>(
     alloc: Global,
     tables: &Tables,
     ancestors: &A,
     position: u32,
-) -> Result<Vec<u32>, AllocError>
+) -> Result<Known, AllocError>
     requires past { StandsAt tables.now (λ p. A.ancestor ancestors.now p position) }
-    ensures { IfOk result (λ known. AreKnownThen (A.ancestor ancestors.now) tables.now position known.items) }
+    ensures { IfOk result (λ known. AreKnownThen (A.ancestor ancestors.now) tables.now position known) }
 {
     if tables.keeps() {
-        tables.causes_then(alloc, ancestors, position)
+        tables.known_then(alloc, ancestors, position)
     } else {
-        Ok(Vec::new(alloc))
+        Ok(Known::nothing(alloc))
     }
 }
 
@@ -141,6 +141,45 @@ impl<'a, A: Ancestors> At<'a, A> {
         }
     }
 
+    /// How many rows of the table are visible then and have this value in the column, of which the table keeps the least
+    /// row of each.
+    fn shown_with(
+        &self,
+        alloc: Global,
+        table: u8,
+        column: u8,
+        value: &Value,
+    ) -> Result<u32, AllocError>
+        requires { kept_of (rules_of_state self.now.tables.now) table ≡ Some column }
+        ensures { IfOk result (λ count. count ≡ equal_then self.now.tables.now
+            (λ p. A.ancestor self.now.ancestors.now p self.now.position) table column value.now) }
+    {
+        match self.tables.first_with(alloc, table, value)? {
+            Some(place) => Ok(self.known.shown[place]),
+            None => Ok(0),
+        }
+    }
+
+    /// How many rows of the table are visible then and have this value in this column. It goes over all rows.
+    fn count_equal(
+        &self,
+        alloc: Global,
+        table: u8,
+        column: u8,
+        value: &Value,
+    ) -> Result<u32, AllocError>
+        ensures { IfOk result (λ count. count ≡ equal_then self.now.tables.now
+            (λ p. A.ancestor self.now.ancestors.now p self.now.position) table column value.now) }
+    {
+        let mut count = 0;
+        for place in 0..self.tables.row_len() {
+            if self.equals_in(alloc, place, table, column, value)? {
+                count += 1;
+            }
+        }
+        Ok(count)
+    }
+
     /// Whether the row at a place is visible then.
     fn stands(&self, alloc: Global, place: usize) -> Result<bool, AllocError>
         requires { place < length self.now.tables.now.inserted }
@@ -148,7 +187,7 @@ impl<'a, A: Ancestors> At<'a, A> {
             → answer ≡ visible_at (A.ancestor self.now.ancestors.now) self.now.tables.now self.now.position it.name) }
     {
         if self.tables.keeps() {
-            Ok(self.known[place] == 0)
+            Ok(self.known.causes[place] == 0)
         } else {
             self.climbs(alloc, place)
         }
@@ -222,7 +261,8 @@ impl<'a, A: Ancestors> RowsAt for At<'a, A> {
     }
 
     /// How many rows of the table that are visible then have this value in this column, as `UNIQUE` compares them. It
-    /// goes over all rows.
+    /// takes logarithmic time where the table keeps the least row of each value of the column. Else it goes over all
+    /// rows, which no schema that is accepted asks for.
     fn equal_rows(
         &self,
         alloc: Global,
@@ -230,13 +270,11 @@ impl<'a, A: Ancestors> RowsAt for At<'a, A> {
         column: u8,
         value: &Value,
     ) -> Result<u32, AllocError> {
-        let mut count = 0;
-        for place in 0..self.tables.row_len() {
-            if self.equals_in(alloc, place, table, column, value)? {
-                count += 1;
-            }
+        if self.tables.keeps_in(table, column) {
+            self.shown_with(alloc, table, column, value)
+        } else {
+            self.count_equal(alloc, table, column, value)
         }
-        Ok(count)
     }
 
     /// How many rows of the table are visible then. It goes over all rows, since no schema that is accepted has an

@@ -23,6 +23,8 @@ mod dropped;
 mod grounds;
 mod groups;
 mod inserted;
+mod kept_value;
+mod known;
 mod laws;
 mod lent;
 mod links;
@@ -35,6 +37,7 @@ mod showing;
 mod steps;
 mod tables;
 mod threads;
+mod values;
 mod voided;
 
 pub use at::At;

@@ -1,18 +1,21 @@
 //! The rows that a row names by `CASCADE`, and the places of rows.
 
 ghost use Rattle.std.specs.Prelude.{◌≡◌, ◌+◌, ◌<◌, ◌^◌, ℕ, Bool, ◌&&◌, ◌++◌, length, nat_lt, option_to_list, true, []};
-ghost use Rattle.std.specs.Prelude.{IfNone, IfSome, OnOk, OnErr};
+ghost use Rattle.std.specs.Prelude.{IfNone, IfSome, MatchResult, OnOk, OnErr};
 ghost use Rattle.std.specs.List.{list_all};
 ghost use Rattle.std.specs.BTreeMap.{get};
 ghost use Rattle.update_model.specs.declared.row_name.RowName.{RowName as Name};
 ghost use Rattle.table_model.specs.Tables.{name_cmp};
+ghost use Rattle.tuple_state.specs.Grouped.{AreGroupsOf};
 ghost use Rattle.tuple_state.specs.Kept.{place_of};
 ghost use Rattle.tuple_state.specs.Parents.{AreFresh, parent_in};
 
 use crate::Inserted;
+use crate::groups::Groups;
 use crate::links::Link;
+use crate::shape::Shape;
 use schema::{Action, Column, ColumnKind};
-use std::alloc::AllocError;
+use std::alloc::{AllocError, Global};
 use std::collections::{BTreeMap, BTreeSet};
 use update_model::{RowName, Value};
 
@@ -54,6 +57,36 @@ pub(crate) fn add_places(
         }
     }
     Ok(())
+}
+
+/// Finds the places of rows that come after others, and their groups. Where memory runs out, both are those of the
+/// others still.
+pub(crate) fn enter(
+    alloc: Global,
+    places: &mut BTreeMap<RowName, usize>,
+    groups: &mut Groups,
+    shapes: &[Shape],
+    rows: &[Inserted],
+    inserted: &[Inserted],
+) -> Result<(), AllocError>
+    requires placed { (name : Name) → get name_cmp places.old name ≡ place_of rows.now name }
+    requires groups { AreGroupsOf shapes.now rows.now groups.old }
+    requires fresh { AreFresh rows.now inserted.now }
+    requires few { length rows.now + length inserted.now < 2 ^ 63 }
+    ensures ok { OnOk result ((name : Name) → get name_cmp places.new name ≡ place_of (rows.now ++ inserted.now) name) }
+    ensures err { OnErr result ((name : Name) → get name_cmp places.new name ≡ place_of rows.now name) }
+    ensures groups { MatchResult result (λ _. AreGroupsOf shapes.now (rows.now ++ inserted.now) groups.new)
+        (λ _. AreGroupsOf shapes.now rows.now groups.new) }
+{
+    let len = rows.len();
+    groups.grow(alloc, shapes, rows, inserted)?;
+    match add_places(places, rows, inserted) {
+        Ok(_) => Ok(()),
+        Err(error) => {
+            groups.cut(len);
+            Err(error)
+        }
+    }
 }
 
 /// Takes the places of the later rows away.

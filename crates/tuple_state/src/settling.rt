@@ -5,12 +5,12 @@
 
 ghost use Rattle.std.specs.Prelude.{◌≡◌, ◌+◌, ◌<◌, ◌≤◌, ◌==◌, ◌^◌, ◌&&◌, ℕ, false, true, not, IfOk, IfSome, None, Some};
 ghost use Rattle.std.specs.Prelude.{count_by, length, slice_get, slice_index_or, if◌then◌else◌};
-ghost use Rattle.std.specs.Vec.{vec_capacity};
 ghost use Rattle.std.specs.Ordering.{is_lt};
 ghost use Rattle.update_model.specs.Entry.{id_cmp};
 ghost use Rattle.table_model.specs.Counts.{one_where};
 ghost use Rattle.table_model.specs.Visible.{is_deleted, name_cmp};
 ghost use Rattle.tuple_state.specs.Causes.{AreParted, AreRising, absent_times, is_absent, times_in};
+ghost use Rattle.tuple_state.specs.Grouped.{AreGroupsOf};
 ghost use Rattle.tuple_state.specs.Least.{AreGrouped, AreLeast, AreLevel, AreSettled, is_behind, is_first, is_in};
 ghost use Rattle.tuple_state.specs.Least.{is_lesser};
 ghost use Rattle.tuple_state.specs.Links.{are_inside, is_of};
@@ -31,7 +31,7 @@ use std::cmp::Ordering;
 use update_model::{Ancestors, RowName, UpdateId};
 
 /// Counts the causes of rows anew, where one of these tables keeps the least row of each value: by what deletes them,
-/// and by other rows. The groups of new rows are found first. It takes no memory.
+/// and by other rows. It takes no memory.
 pub(crate) fn recount(causes: &mut [u32], groups: &mut Groups, deleters: &Links, grounds: &Grounds)
     requires each { length causes.old ≡ length grounds.now.rows.now }
     requires rising { AreRising 0 (length grounds.now.rows.now) grounds.now.children.now }
@@ -41,28 +41,18 @@ pub(crate) fn recount(causes: &mut [u32], groups: &mut Groups, deleters: &Links,
     requires inside { are_inside (length grounds.now.rows.now) deleters.now.links ≡ true }
     requires few { length grounds.now.children.now ≤ 536870912 }
     requires few_deleters { length deleters.now.links ≤ 536870912 }
-    requires grouped { AreGrouped grounds.now.shapes.now grounds.now.rows.now groups.old.numbers.items }
-    requires spare { length groups.old.least.items ≡ length groups.old.numbers.items }
-    requires threaded { length groups.old.nexts.items ≡ length groups.old.numbers.items }
-    requires old { keep_any grounds.now.shapes.now ≡ true
-        → length groups.old.numbers.items ≤ length grounds.now.rows.now }
-    requires room { keep_any grounds.now.shapes.now ≡ true
-        → length grounds.now.rows.now ≤ vec_capacity groups.old.numbers }
-    requires space { keep_any grounds.now.shapes.now ≡ true
-        → length grounds.now.rows.now ≤ vec_capacity groups.old.least }
-    requires way { keep_any grounds.now.shapes.now ≡ true → length grounds.now.rows.now ≤ vec_capacity groups.old.nexts }
+    requires groups { AreGroupsOf grounds.now.shapes.now grounds.now.rows.now groups.old }
     ensures plain { keep_any grounds.now.shapes.now ≡ false → causes.new ≡ causes.old }
     ensures counted { keep_any grounds.now.shapes.now ≡ true → AreSettled grounds.now.shapes.now grounds.now.rows.now
         grounds.now.children.now (λ k. count_by (is_of k) deleters.now.links) causes.new }
-    ensures grouped { AreGrouped grounds.now.shapes.now grounds.now.rows.now groups.new.numbers.items }
-    ensures spare { length groups.new.least.items ≡ length groups.new.numbers.items }
-    ensures threaded { length groups.new.nexts.items ≡ length groups.new.numbers.items }
-    ensures all { keep_any grounds.now.shapes.now ≡ true → length groups.new.numbers.items ≡ length grounds.now.rows.now }
+    ensures values { groups.new.values ≡ groups.old.values }
+    ensures numbers { groups.new.numbers.items ≡ groups.old.numbers.items }
+    ensures least { length groups.new.least.items ≡ length groups.old.least.items }
+    ensures nexts { length groups.new.nexts.items ≡ length groups.old.nexts.items }
 {
     if !keep_any(grounds.shapes) {
         return;
     }
-    groups.grow(grounds.rows, grounds.shapes);
     clear(causes);
     count_places(causes, deleters.links());
     spread_causes(

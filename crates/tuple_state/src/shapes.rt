@@ -2,7 +2,8 @@
 
 ghost use Rattle.std.specs.Prelude.{◌≡◌, IfOk, [], map};
 ghost use Rattle.schema.specs.Sound.{AreTables};
-ghost use Rattle.tuple_state.specs.State.{keep_any, shape_of};
+ghost use Rattle.table_model.specs.Visible.{kept_of};
+ghost use Rattle.tuple_state.specs.State.{keep_any, rules_over, shape_of};
 
 use crate::shape::Shape;
 use schema::{Column, ColumnList, Schema};
@@ -30,6 +31,16 @@ pub(crate) fn keep_any(shapes: &[Shape]) -> bool
     ensures { result ≡ keep_any shapes.now }
 {
     shapes.iter().any(|shape| shape.kept.is_some())
+}
+
+/// The column of which the table with this number keeps the least row of each value, if any.
+pub(crate) fn kept_in(shapes: &[Shape], table: u8) -> Option<u8>
+    ensures { result ≡ kept_of (rules_over shapes.now) table }
+{
+    match shapes.get(usize::from(table)) {
+        Some(shape) => shape.kept,
+        None => None,
+    }
 }
 
 /// Equal shapes on memory of their own.

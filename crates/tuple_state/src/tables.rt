@@ -1,7 +1,7 @@
 ghost use Rattle.std.specs.Prelude.{◌≡◌, ℕ, ◌+◌, ◌*◌, ◌<◌, ◌≤◌, Bool, List, [], ◌∷◌, ◌++◌, IfOk, IfNone, IfSome, OnOk};
 ghost use Rattle.std.specs.Prelude.{MatchResult, length, map, nat_lt, option_to_list, slice_get, take, Contains, Some};
 ghost use Rattle.std.specs.Prelude.{true, not, ◌&&◌, ◌||◌, ◌⊎◌};
-ghost use Rattle.std.specs.List.{list_all, list_any};
+ghost use Rattle.std.specs.List.{list_all, list_any, position_from};
 ghost use Rattle.std.specs.Vec.{vec_capacity};
 ghost use Rattle.table_model.specs.declared.verdict.Verdict.TheVariants.{Valid};
 ghost use Rattle.update_model.specs.declared.value.Value.{Value as Cell};
@@ -14,10 +14,11 @@ ghost use Rattle.update_model.specs.Node.{NodeData};
 ghost use Rattle.table_model.specs.Tables.{AreRowsIn, AreVoidsIn, name_cmp};
 ghost use Rattle.table_model.specs.Verdicts.{effects_in, in_table};
 ghost use Rattle.table_model.specs.Visible.{Rules, TableRow, cascade_refs, is_deleted, is_visible, refs, rules_with};
-ghost use Rattle.table_model.specs.Visible.{same_row};
+ghost use Rattle.table_model.specs.Visible.{kept_of, same_row};
 ghost use Rattle.schema.specs.Columns.{is_restrict};
 ghost use Rattle.table_model.specs.Answers.{AreAnswers};
-ghost use Rattle.tuple_state.specs.Past.{AreCausesThen, IsNextVerdict, IsPastOf, StandsAt, done_then, effects_before};
+ghost use Rattle.tuple_state.specs.Past.{AreCausesThen, IsKnownThen, IsNextVerdict, IsPastOf, StandsAt, done_then};
+ghost use Rattle.tuple_state.specs.Past.{effects_before};
 ghost use Rattle.tuple_state.specs.Absence.{causes_of};
 ghost use Rattle.tuple_state.specs.Causes.{parents_from};
 ghost use Rattle.tuple_state.specs.Changes.{AreNextChanges, AreWithParents};
@@ -25,6 +26,7 @@ ghost use Rattle.tuple_state.specs.Kept.{are_grounded, are_layered, deletes_at, 
 ghost use Rattle.tuple_state.specs.Parents.{columns_at, is_held, passes_place};
 ghost use Rattle.tuple_state.specs.State.{IsCut, IsHeld, IsStateOf, after, done_in, dropped_at, keep_any, row_of};
 ghost use Rattle.tuple_state.specs.State.{rules_of_state, voided_at};
+ghost use Rattle.tuple_state.specs.Values.{has_at};
 ghost use Rattle.tuple_state.specs.declared.inserted.Inserted.{Inserted as Row};
 
 use crate::causes::{add_causes, clear, count_numbers, count_places, room_for};
@@ -33,12 +35,13 @@ use crate::cutting::{lines_of, names_before, numbers_before, rows_before, voids_
 use crate::deleters::grow_links;
 use crate::grounds::Grounds;
 use crate::groups::Groups;
+use crate::known::{Known, count_shown};
 use crate::links::{Link, Links};
-use crate::parents::{add_parents, add_places, comes_last, remove_places, take_last};
+use crate::parents::{add_parents, comes_last, enter, remove_places, take_last};
 use crate::restricts::{is_held, restricts};
 use crate::settling::{own_causes, recount, spread_causes};
 use crate::shape::Shape;
-use crate::shapes::{copy_shapes, keep_any, shapes_of};
+use crate::shapes::{copy_shapes, keep_any, kept_in, shapes_of};
 use crate::showing::{copy_rows, listed_rows};
 use crate::steps::{dropped_by, inserted_by};
 use crate::{At, Dropped, Inserted, Voided};
@@ -99,7 +102,7 @@ impl Model for Tables {
     } };
 
     ghost invariant = { λ t. IsKept (record { shapes = t.shapes.items; count = t.count; inserted = t.rows.items; dropped = t.dropped.items; voids = t.voids.items })
-        t.places t.causes.items t.children t.deleters t.ends.items t.groups.numbers.items t.groups.least.items t.groups.nexts.items };
+        t.places t.causes.items t.children t.deleters t.ends.items t.groups };
 }
 
 impl Tables {
@@ -350,10 +353,12 @@ impl Tables {
         reserve_rows(&mut self.rows, &mut self.causes, &mut self.ends, more)?;
         self.dropped.reserve(dropped.len())?;
         let shapes = self.shapes.as_slice();
-        self.groups.reserve(shapes, more)?;
-        add_places(&mut self.places, self.rows.as_slice(), inserted.as_slice())?;
+        let old = self.rows.as_slice();
+        let news = inserted.as_slice();
+        let alloc = self.alloc;
+        enter(alloc, &mut self.places, &mut self.groups, shapes, old, news)?;
         match grow_links(
-            self.alloc,
+            alloc,
             &mut self.children,
             &mut self.deleters,
             &self.places,
@@ -368,7 +373,8 @@ impl Tables {
                 add_causes(causes, pending, &self.children, &added);
             }
             Err(error) => {
-                remove_places(&mut self.places, self.rows.as_slice(), inserted.as_slice());
+                remove_places(&mut self.places, old, news);
+                self.groups.cut(first);
                 return Err(error);
             }
         }
@@ -471,6 +477,49 @@ impl Tables {
             &Grounds::new(&self.rows, &self.children, &self.ends, shapes),
         );
         Ok(causes)
+    }
+
+    /// What is known of the rows after the ancestors of the update at a position. It goes over all rows.
+    pub(crate) fn known_then<A: Ancestors>(
+        &self,
+        alloc: Global,
+        ancestors: &A,
+        position: u32,
+    ) -> Result<Known, AllocError>
+        requires layered { are_layered (rules_of_state self.now)
+            (done_then self.now (λ p. A.ancestor ancestors.now p position)).inserted ≡ true }
+        requires grounded { are_grounded (rules_of_state self.now)
+            (done_then self.now (λ p. A.ancestor ancestors.now p position)).inserted ≡ true }
+        requires keeps { keep_any self.now.shapes ≡ true }
+        ensures { IfOk result (λ known. IsKnownThen (A.ancestor ancestors.now) self.now position known) }
+    {
+        let causes = self.causes_then(alloc, ancestors, position)?;
+        let shown = count_shown(alloc, causes.as_slice(), self.groups.numbers.as_slice())?;
+        Ok(Known { causes, shown })
+    }
+
+    /// Whether the table keeps the least row of each value of this column.
+    pub(crate) fn keeps_in(&self, table: u8, column: u8) -> bool
+        ensures { result ≡ true → kept_of (rules_of_state self.now) table ≡ Some column }
+    {
+        match kept_in(self.shapes.as_slice(), table) {
+            Some(kept) => kept == column,
+            None => false,
+        }
+    }
+
+    /// The place of the first row of a table that has this value in the column of which the table keeps the least row of
+    /// each. It takes logarithmic time.
+    pub(crate) fn first_with(
+        &self,
+        alloc: Global,
+        table: u8,
+        value: &Value,
+    ) -> Result<Option<usize>, AllocError>
+        ensures { IfOk result (λ first. (column : ℕ) → kept_of (rules_of_state self.now) table ≡ Some column
+            → first ≡ position_from (has_at table column value.now) 0 self.now.inserted) }
+    {
+        self.groups.values.find(alloc, table, value)
     }
 
     /// Whether an ancestor of the update at a position inserted the row at a place, and none deletes it.
@@ -576,7 +625,9 @@ impl Tables {
         let shapes = copy_shapes(alloc, self.shapes.as_slice())?;
         let rows = copy_rows(alloc, self.rows.as_slice())?;
         let mut places = BTreeMap::new(alloc);
-        add_places(&mut places, &[], rows.as_slice())?;
+        let mut groups = Groups::new(alloc);
+        let forms = shapes.as_slice();
+        enter(alloc, &mut places, &mut groups, forms, &[], rows.as_slice())?;
         Ok(Tables {
             alloc,
             shapes,
@@ -589,7 +640,7 @@ impl Tables {
             deleters: self.deleters.copy(alloc)?,
             voids: Vec::from_slice(alloc, self.voids.as_slice())?,
             ends: Vec::from_slice(alloc, self.ends.as_slice())?,
-            groups: self.groups.copy(alloc)?,
+            groups,
         })
     }
 

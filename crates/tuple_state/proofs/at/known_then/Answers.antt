@@ -6,21 +6,21 @@ use Rattle.tuple_state.proofs.Answering.{layered_then, resting_then}
 use Rattle.tuple_state.proofs.Layers.{grounded_is}
 use Rattle.tuple_state.proofs.at.known_then.Goals as goal
 
-pub causes_then-requires-clause-layered : goal.causes_then-requires-clause-layered
-causes_then-requires-clause-layered g c =
+pub known_then-requires-clause-layered : goal.known_then-requires-clause-layered
+known_then-requires-clause-layered g c =
     let it = c.requires.past in
     layered_then it.rules it.nodes it.node c.args.tables.now _ it.is it.past_of
 
-pub causes_then-requires-clause-grounded : goal.causes_then-requires-clause-grounded
-causes_then-requires-clause-grounded g c =
+pub known_then-requires-clause-grounded : goal.known_then-requires-clause-grounded
+known_then-requires-clause-grounded g c =
     let it = c.requires.past in
     grounded_is (rules_of_state c.args.tables.now) _ ∙ resting_then it.rules it.nodes it.node c.args.tables.now _ it.is it.past_of
 
-pub causes_then-requires-clause-keeps : goal.causes_then-requires-clause-keeps
-causes_then-requires-clause-keeps g c = sym c.keeps.ensures ∙ c.if-keeps.true
+pub known_then-requires-clause-keeps : goal.known_then-requires-clause-keeps
+known_then-requires-clause-keeps g c = sym c.keeps.ensures ∙ c.if-keeps.true
 
 pub returns-then-keeps : goal.returns-then-keeps
-returns-then-keeps g c = IfOk-weaker c.causes_then.result _ _ (λ v are keeps. are) c.causes_then.ensures
+returns-then-keeps g c = IfOk-weaker c.known_then.result _ _ (λ v are keeps. are) c.known_then.ensures
 
 pub returns-else-keeps : goal.returns-else-keeps
 returns-else-keeps g c keeps = absurd (both_ways _ (sym c.keeps.ensures ∙ c.if-keeps.false) keeps)

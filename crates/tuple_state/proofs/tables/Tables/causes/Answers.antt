@@ -15,7 +15,7 @@ pub returns-in-Some : goal.returns-in-Some
 returns-in-Some c rules nodes held =
     let inside = c.self.inside in
     let state : State = record { shapes = inside.shapes.items; count = inside.count; inserted = inside.rows.items; dropped = inside.dropped.items; voids = inside.voids.items } in
-    causes_now rules nodes state (subst (λ (s : State). IsStateOf rules nodes s) (sym c.self.view_is) held) inside.places inside.causes.items inside.children inside.deleters inside.ends.items inside.groups.numbers.items inside.groups.least.items inside.groups.nexts.items c.self.invariant c.args.row.now c.in-Some.place.now c.index.result.now
+    causes_now rules nodes state (subst (λ (s : State). IsStateOf rules nodes s) (sym c.self.view_is) held) inside.places inside.causes.items inside.children inside.deleters inside.ends.items inside.groups c.self.invariant c.args.row.now c.in-Some.place.now c.index.result.now
     (sym (c.self.invariant.placed c.args.row.now) ∙ sym c.in-Some.ensures.value) c.index.ensures
 
 pub returns-in-None : goal.returns-in-None

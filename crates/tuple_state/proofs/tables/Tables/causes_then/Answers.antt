@@ -49,7 +49,7 @@ returns g c =
     let inside = c.self.inside in
     let now = c.args.self.now in
     let past : ℕ → Bool = λ p. g.A.Ancestors.ancestor c.args.ancestors.now p c.args.position in
-    let kept = subst (λ (s : State). IsKept s inside.places inside.causes.items inside.children inside.deleters inside.ends.items inside.groups.numbers.items inside.groups.least.items inside.groups.nexts.items) c.self.view_is c.self.invariant in
+    let kept = subst (λ (s : State). IsKept s inside.places inside.causes.items inside.children inside.deleters inside.ends.items inside.groups) c.self.view_is c.self.invariant in
     let base = c.in_ok-causes.causes.items in
     let settled = settled_shift _ now.shapes _ now.inserted _ inside.children.links _ base c.spread_causes.new.causes (c.new.ensures.shapes ∙ c.as_slice-shapes.ensures.value ∙ ap (λ (s : State). s.shapes) c.self.view_is)
     (c.new.ensures.rows ∙ ap (λ (s : State). s.inserted) c.self.view_is) c.new.ensures.children c.as_mut_slice.ensures.value c.spread_causes.ensures in

@@ -2,9 +2,11 @@ use Rattle.std.proofs.Common.{◌≡◌, ◌+◌, ◌++◌, ℕ, true, List, len
 use Rattle.std.specs.Prelude.{count_by}
 use Rattle.std.proofs.lemmas.List.{length-take-le, take_at}
 use Rattle.tuple_state.specs.Causes.{AreRising, absent_times, ends_from}
+use Rattle.tuple_state.specs.Grouped.{AreGroupsOf}
 use Rattle.tuple_state.specs.Kept.{IsKept, are_layered, place_of}
 use Rattle.tuple_state.specs.Links.{Linked, are_inside, is_of}
 use Rattle.tuple_state.specs.State.{IsCut, IsStateOf, State, keep_any, row_of, rules_of_state, state_of}
+use Rattle.tuple_state.specs.Values.{first_of}
 use Rattle.tuple_state.specs.declared.dropped.Dropped.{Dropped}
 use Rattle.tuple_state.specs.declared.inserted.Inserted.{Inserted}
 use Rattle.tuple_state.specs.declared.links.Link.{Link}
@@ -14,7 +16,7 @@ use Rattle.tuple_state.specs.declared.voided.Voided.{Voided}
 use Rattle.tuple_state.proofs.Fronts.{closed_back}
 use Rattle.tuple_state.proofs.Marks.{fresh_layered}
 use Rattle.tuple_state.proofs.Parting.{ends_each, parted, parted_moved}
-use Rattle.tuple_state.proofs.Grouping.{front_len, grouped_front, grouped_moved, take_same}
+use Rattle.tuple_state.proofs.Gathering.{groups_at, groups_moved}
 use Rattle.tuple_state.proofs.Leasts.{plain_settled, settled_moved}
 use Rattle.tuple_state.proofs.Levels.{level_moved}
 use Rattle.tuple_state.specs.Least.{AreSettled}
@@ -166,44 +168,10 @@ recount-requires-clause-inside c =
     subst (λ (l : List Link). are_inside (length c.new-grounds.result.rows.now) l ≡ true) (sym (ap (λ (d : Linked). d.links) c.cut.ensures))
     (subst (λ m. are_inside m (take c.names_before-names.result gone) ≡ true) (sym (size_now c)) within)
 
-pub recount-requires-clause-grouped : goal.recount-requires-clause-grouped
-recount-requires-clause-grouped c =
+pub recount-requires-clause-groups : goal.recount-requires-clause-groups
+recount-requires-clause-groups c =
     let inside = c.self.inside in
-    let n = c.rows_before-rows.result in
-    grouped_moved inside.shapes.items _ (take n inside.rows.items) _ (take n inside.groups.numbers.items) _ (sym (shapes_now c)) (sym (rows_now c)) (sym c.cut-3.ensures.numbers)
-    (grouped_front inside.shapes.items inside.rows.items inside.groups.numbers.items n c.self.invariant.grouped)
-
-pub recount-requires-clause-spare : goal.recount-requires-clause-spare
-recount-requires-clause-spare c =
-    let groups = c.self.inside.groups in
-    ap length c.cut-3.ensures.least ∙ take_same c.rows_before-rows.result groups.least.items groups.numbers.items c.self.invariant.spare ∙ sym (ap length c.cut-3.ensures.numbers)
-
-pub recount-requires-clause-old : goal.recount-requires-clause-old
-recount-requires-clause-old c keeps =
-    let short = front_len c.rows_before-rows.result c.self.inside.groups.numbers.items in
-    let len = ap length c.cut-3.ensures.numbers in
-    let size = size_now c in
-    omega (arith, short, len, size)
-
-pub recount-requires-clause-room : goal.recount-requires-clause-room
-recount-requires-clause-room c keeps =
-    let n = c.rows_before-rows.result in
-    let few = rows_few (count_back c) n (count_rows c) in
-    let sized = c.self.invariant.sized (sym (ap keep_any (shapes_now c)) ∙ keeps) in
-    let len = ap length c.cut-3.ensures.numbers ∙ length-take-le n c.self.inside.groups.numbers.items (omega (arith, few, sized)) in
-    let size = size_now c in
-    let v = c.cut-3.new.self.numbers in
-    omega (arith, len, size, v.ok.0, v.ok.1)
-
-pub recount-requires-clause-space : goal.recount-requires-clause-space
-recount-requires-clause-space c keeps =
-    let n = c.rows_before-rows.result in
-    let few = rows_few (count_back c) n (count_rows c) in
-    let sized = c.self.invariant.sized (sym (ap keep_any (shapes_now c)) ∙ keeps) in
-    let len = ap length c.cut-3.ensures.least ∙ length-take-le n c.self.inside.groups.least.items (omega (arith, few, sized, c.self.invariant.spare)) in
-    let size = size_now c in
-    let v = c.cut-3.new.self.least in
-    omega (arith, len, size, v.ok.0, v.ok.1)
+    groups_at (sym (shapes_now c)) (sym (rows_now c)) (c.cut-3.ensures inside.shapes.items inside.rows.items c.self.invariant.grouped)
 
 -- ---- what is left
 
@@ -271,11 +239,12 @@ invariant_of-self c =
           (subst (λ (l : List ℕ). (k : ℕ) → get_or l k 0 ≡ count_by (is_of k) (take c.names_before-names.result inside.deleters.links) + absent_times (take c.numbers_before-parents.result inside.children.links) l k)
           (sym (c.recount.ensures.plain (ap keep_any shapes_now ∙ plain))) counts)
     ] in
+    let grouped : AreGroupsOf old.shapes old.inserted c.cut-3.new.self = groups_at (shapes_stay it) (rows_taken it n rows_is) (c.cut-3.ensures inside.shapes.items inside.rows.items c.self.invariant.grouped) in
     subst (λ (s : State). IsKept s c.remove_places.new.places (take c.truncate-4.new.self.len (c.recount.new.causes ++ drop (length c.recount.new.causes) c.truncate-4.new.self.items)) c.cut-2.new.self c.cut.new.self c.truncate-5.new.self.items
-    c.recount.new.groups.numbers.items c.recount.new.groups.least.items c.recount.new.groups.nexts.items)
+    c.recount.new.groups)
     (sym (left c it))
     (rw (front, c.cut.ensures, c.cut-2.ensures, c.truncate-5.ensures.items)
-    (kept_old it inside.places c.remove_places.new.places inside.causes.items c.recount.new.causes inside.children inside.deleters inside.ends.items inside.groups.numbers.items c.recount.new.groups.numbers.items inside.groups.least.items c.recount.new.groups.least.items inside.groups.nexts.items c.recount.new.groups.nexts.items
+    (kept_old it inside.places c.remove_places.new.places inside.causes.items c.recount.new.causes inside.children inside.deleters inside.ends.items inside.groups c.recount.new.groups
     n c.names_before-names.result c.numbers_before-parents.result
-    c.self.invariant rows_is names_is refs_is placed (c.recount.auto.causes ∙ c.count_numbers.auto.causes ∙ size ∙ len_old) settled (grouped_moved _ old.shapes _ old.inserted _ _ shapes_now rows_now refl c.recount.ensures.grouped)
-    (λ keeps. c.recount.ensures.all (ap keep_any shapes_now ∙ keeps) ∙ ap length rows_now) c.recount.ensures.spare c.recount.ensures.threaded))
+    c.self.invariant rows_is names_is refs_is placed (c.recount.auto.causes ∙ c.count_numbers.auto.causes ∙ size ∙ len_old) settled
+    (groups_moved grouped c.recount.new.groups (λ key. ap (λ v. first_of v key) c.recount.ensures.values) c.recount.ensures.numbers c.recount.ensures.least c.recount.ensures.nexts)))

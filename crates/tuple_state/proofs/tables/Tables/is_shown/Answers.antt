@@ -15,7 +15,7 @@ pub returns-in-Some : goal.returns-in-Some
 returns-in-Some c =
     let inside = c.self.inside in
     let state : State = record { shapes = inside.shapes.items; count = inside.count; inserted = inside.rows.items; dropped = inside.dropped.items; voids = inside.voids.items } in
-    mark_found state inside.places inside.causes.items inside.children inside.deleters inside.ends.items inside.groups.numbers.items inside.groups.least.items inside.groups.nexts.items c.self.invariant c.args.row.now c.in-Some.place.now (sym (c.self.invariant.placed c.args.row.now) ∙ sym c.in-Some.ensures.value) c.index.result.now c.index.ensures
+    mark_found state inside.places inside.causes.items inside.children inside.deleters inside.ends.items inside.groups c.self.invariant c.args.row.now c.in-Some.place.now (sym (c.self.invariant.placed c.args.row.now) ∙ sym c.in-Some.ensures.value) c.index.result.now c.index.ensures
     ∙ ap (λ (s : State). is_visible (rules_of_state s) (done_in s) c.args.row.now) c.self.view_is
 
 pub returns-in-None : goal.returns-in-None

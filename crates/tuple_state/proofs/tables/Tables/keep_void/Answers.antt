@@ -13,5 +13,5 @@ invariant_of-self-2 c =
     let few : c.args.self.now.count < MAX_MEMBERS = c.requires.few in
     let held : IsHeld (record state { count = state.count + 1; voids = state.voids ++ voided_at state.count c.args.line ∷ [] }) =
     subst (λ (s : State). IsHeld (record s { count = s.count + 1; voids = s.voids ++ voided_at s.count c.args.line ∷ [] })) (sym c.self.view_is) c.requires.held in
-    kept_void state inside.places inside.causes.items inside.children inside.deleters inside.ends.items inside.groups.numbers.items inside.groups.least.items inside.groups.nexts.items _ c.self.invariant (omega (arith, few, count))
+    kept_void state inside.places inside.causes.items inside.children inside.deleters inside.ends.items inside.groups _ c.self.invariant (omega (arith, few, count))
     (subst (λ (v : List Voided). IsHeld (record state { count = state.count + 1; voids = v })) (sym c.in_ok-push.ensures.items) held)

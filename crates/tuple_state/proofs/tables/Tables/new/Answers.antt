@@ -7,8 +7,8 @@ use Rattle.tuple_state.proofs.tables.Tables.new.Goals as goal
 pub invariant_of-result : goal.invariant_of-result
 unfolding state_of
 invariant_of-result c =
-    rw (c.new.ensures.items, c.new-3.ensures.items, c.new-4.ensures.items, c.new-7.ensures.items, c.new-8.ensures.items, c.new-9.ensures.numbers, c.new-9.ensures.least, c.new-9.ensures.nexts)
-    (kept_new (rules_with (λ number values. false) c.args.schema.now.tables) c.in_ok-shapes_of.field-0.items c.new-2.result c.new-5.result c.new-6.result c.new-2.ensures.empty c.new-5.ensures c.new-6.ensures
+    rw (c.new.ensures.items, c.new-3.ensures.items, c.new-4.ensures.items, c.new-7.ensures.items, c.new-8.ensures.items)
+    (kept_new (rules_with (λ number values. false) c.args.schema.now.tables) c.in_ok-shapes_of.field-0.items c.new-2.result c.new-5.result c.new-6.result c.new-9.result (c.new-9.ensures c.in_ok-shapes_of.field-0.items) c.new-2.ensures.empty c.new-5.ensures c.new-6.ensures
     (record {
       tables = c.in_ok-shapes_of.ensures.tables;
       closed = tt;

@@ -13,13 +13,15 @@ use Rattle.tuple_state.specs.declared.tables.Tables.TheInside.{Inside}
 use Rattle.tuple_state.specs.declared.tables.Tables.TheView.{view}
 use Rattle.tuple_state.specs.Causes.{AreRising, absent_times, ends_from, parents_from}
 use Rattle.tuple_state.specs.Changes.{AreWithParents}
+use Rattle.tuple_state.specs.Grouped.{AreGroupsOf}
 use Rattle.tuple_state.specs.Kept.{deletes_at, pairs_of, place_of}
 use Rattle.tuple_state.specs.Least.{AreSettled}
 use Rattle.tuple_state.specs.Links.{Linked, are_inside, is_of}
 use Rattle.tuple_state.specs.State.{State, keep_any, rules_of_state}
+use Rattle.tuple_state.specs.Values.{first_of}
 use Rattle.tuple_state.proofs.Adding.{rising_lower}
 use Rattle.tuple_state.proofs.Deleting.{all_same, links_inside, pairs_same}
-use Rattle.tuple_state.proofs.Grouping.{grouped_more, grouped_moved}
+use Rattle.tuple_state.proofs.Gathering.{groups_at, groups_moved, take_before}
 use Rattle.tuple_state.proofs.Keeping.{deleters_next, drops_of, drops_there, ended_next, kept_next, known_inside, layered_next, level_next, named_next, news_of, padded_counts, padded_few, parents_found, refs_rising, rising_next}
 use Rattle.tuple_state.proofs.Leasts.{plain_settled, settled_moved}
 use Rattle.tuple_state.proofs.Levels.{level_moved}
@@ -61,6 +63,9 @@ module _ (inside : Inside) {i : List Inserted} {d p : List Dropped} {e : List �
   placed : {rows more : List Inserted} (places : BTreeMap RowName ℕ) → ((name : RowName) → get name_cmp places name ≡ place_of (rows ++ more) name) → rows ≡ inside.rows.items → more ≡ i → (name : RowName) → get name_cmp places name ≡ place_of whole name
   placed places at is so name = at name ∙ (λ k. place_of (is k ++ (so ∙ next.changes.rows) k) name)
 
+  all_rows : {rows more : List Inserted} → rows ≡ inside.rows.items → more ≡ i → rows ++ more ≡ whole
+  all_rows is so = λ k. is k ++ (so ∙ next.changes.rows) k
+
   refs_are : {names : List Dropped} (refs : List Link) (places : BTreeMap RowName ℕ) → ((name : RowName) → get name_cmp places name ≡ place_of whole name) → names ≡ p → pairs_of refs ≡ deletes_at (get name_cmp places) names → pairs_of refs ≡ deletes_at (place_of whole) parents
   refs_are refs places at is so = so ∙ ap (deletes_at (get name_cmp places)) (is ∙ parents_are) ∙ pairs_same at parents
 
@@ -69,44 +74,52 @@ module _ (inside : Inside) {i : List Inserted} {d p : List Dropped} {e : List �
 
 -- ---- new places
 
-pub add_places-requires-clause-fresh : goal.add_places-requires-clause-fresh
-add_places-requires-clause-fresh c =
-    let next = given c.self.inside c.self.view_is c.requires.next in
-    rw (c.as_slice.ensures.value, c.reserve_rows.ensures.rows, c.as_slice-2.ensures.value, next.changes.rows) (fresh_layered _ c.self.inside.rows.items _ (layered_next c.self.invariant next.changes.next))
+pub enter-requires-clause-groups : goal.enter-requires-clause-groups
+enter-requires-clause-groups c = groups_at (sym c.as_slice-shapes.ensures.value) (sym (c.as_slice-old.ensures.value ∙ c.reserve_rows.ensures.rows)) c.self.invariant.grouped
 
-pub invariant_of-self-in_err-add_places : goal.invariant_of-self-in_err-add_places
-invariant_of-self-in_err-add_places c =
-    rw (c.reserve_rows.ensures.rows, c.reserve_rows.ensures.causes, c.reserve.ensures.items, c.reserve_rows.ensures.ends, c.reserve-2.ensures.numbers, c.reserve-2.ensures.least, c.reserve-2.ensures.nexts)
-    (kept_places c.add_places.new.places c.self.invariant (rw (c.as_slice.ensures.value, c.reserve_rows.ensures.rows) at c.in_err-add_places.ensures.err) refl refl)
+pub enter-requires-clause-fresh : goal.enter-requires-clause-fresh
+enter-requires-clause-fresh c =
+    let next = given c.self.inside c.self.view_is c.requires.next in
+    rw (c.as_slice-old.ensures.value, c.reserve_rows.ensures.rows, c.as_slice-news.ensures.value, next.changes.rows) (fresh_layered _ c.self.inside.rows.items _ (layered_next c.self.invariant next.changes.next))
+
+pub invariant_of-self-in_err-enter : goal.invariant_of-self-in_err-enter
+invariant_of-self-in_err-enter c =
+    rw (c.reserve_rows.ensures.rows, c.reserve_rows.ensures.causes, c.reserve.ensures.items, c.reserve_rows.ensures.ends)
+    (kept_places c.enter.new.places c.enter.new.groups c.self.invariant (groups_at c.as_slice-shapes.ensures.value (c.as_slice-old.ensures.value ∙ c.reserve_rows.ensures.rows) c.in_err-enter.ensures.groups) (rw (c.as_slice-old.ensures.value, c.reserve_rows.ensures.rows) at c.in_err-enter.ensures.err) refl refl)
 
 pub remove_places-requires-clause-fresh : goal.remove_places-requires-clause-fresh
 remove_places-requires-clause-fresh c =
     let next = given c.self.inside c.self.view_is c.requires.next in
-    rw (c.as_slice-in-Err.ensures.value, c.reserve_rows.ensures.rows, c.as_slice-in-Err-2.ensures.value, next.changes.rows) (fresh_layered _ c.self.inside.rows.items _ (layered_next c.self.invariant next.changes.next))
+    rw (c.as_slice-old.ensures.value, c.reserve_rows.ensures.rows, c.as_slice-news.ensures.value, next.changes.rows) (fresh_layered _ c.self.inside.rows.items _ (layered_next c.self.invariant next.changes.next))
 
 pub invariant_of-self-in-Err : goal.invariant_of-self-in-Err
 invariant_of-self-in-Err c =
-    rw (c.reserve_rows.ensures.rows, c.reserve_rows.ensures.causes, c.reserve.ensures.items, c.reserve_rows.ensures.ends, c.reserve-2.ensures.numbers, c.reserve-2.ensures.least, c.reserve-2.ensures.nexts)
-    (kept_places c.remove_places.new.places c.self.invariant (rw (c.as_slice-in-Err.ensures.value, c.reserve_rows.ensures.rows) at c.remove_places.ensures) c.in-Err.ensures.children c.in-Err.ensures.deleters)
+    let rows : c.as_slice-old.result.now ≡ c.self.inside.rows.items = c.as_slice-old.ensures.value ∙ c.reserve_rows.ensures.rows in
+    let all : c.len-first.result ≡ length c.self.inside.rows.items = omega (arith, c.len-first.ensures) in
+    let back : AreGroupsOf c.self.inside.shapes.items c.self.inside.rows.items c.cut.new.self =
+    groups_at refl ((λ i. take (all i) (rows i ++ c.as_slice-news.result.now)) ∙ take_before c.self.inside.rows.items c.as_slice-news.result.now)
+    (c.cut.ensures c.self.inside.shapes.items (c.as_slice-old.result.now ++ c.as_slice-news.result.now) (groups_at c.as_slice-shapes.ensures.value refl c.in_ok-enter.ensures.groups)) in
+    rw (c.reserve_rows.ensures.rows, c.reserve_rows.ensures.causes, c.reserve.ensures.items, c.reserve_rows.ensures.ends)
+    (kept_places c.remove_places.new.places c.cut.new.self c.self.invariant back (rw (c.as_slice-old.ensures.value, c.reserve_rows.ensures.rows) at c.remove_places.ensures) c.in-Err.ensures.children c.in-Err.ensures.deleters)
 
 -- ---- new links
 
-module _ (c : goal.After-as_slice-4) where
+module _ (c : goal.After-as_slice-2) where
   link_next : AreWithParents (view c.self.inside) c.args.inserted.now.items c.args.dropped.now.items c.args.parents.now.names.items c.args.parents.now.ends.items
   link_next = given c.self.inside c.self.view_is c.requires.next
 
-  link_places : (name : RowName) → get name_cmp c.add_places.new.places name ≡ place_of (whole c.self.inside link_next) name
-  link_places = placed c.self.inside link_next c.add_places.new.places c.in_ok-add_places.ensures.ok (c.as_slice.ensures.value ∙ c.reserve_rows.ensures.rows) c.as_slice-2.ensures.value
+  link_places : (name : RowName) → get name_cmp c.enter.new.places name ≡ place_of (whole c.self.inside link_next) name
+  link_places = placed c.self.inside link_next c.enter.new.places c.in_ok-enter.ensures.ok (c.as_slice-old.ensures.value ∙ c.reserve_rows.ensures.rows) c.as_slice-news.ensures.value
 
 pub grow_links-requires-clause-named : goal.grow_links-requires-clause-named
 grow_links-requires-clause-named c =
     let next = link_next c in
-    rw (c.as_slice-3.ensures.value, parents_are c.self.inside next) (all_same (link_places c) (parents c.self.inside next) ∙ parents_found c.self.invariant next.changes.next)
+    rw (c.as_slice.ensures.value, parents_are c.self.inside next) (all_same (link_places c) (parents c.self.inside next) ∙ parents_found c.self.invariant next.changes.next)
 
 pub grow_links-requires-clause-found : goal.grow_links-requires-clause-found
 grow_links-requires-clause-found c =
     let next = link_next c in
-    rw (c.as_slice-4.ensures.value, next.changes.names) (all_same (link_places c) (drops c.self.inside next) ∙ drops_there c.self.invariant next.changes.next)
+    rw (c.as_slice-2.ensures.value, next.changes.names) (all_same (link_places c) (drops c.self.inside next) ∙ drops_there c.self.invariant next.changes.next)
 
 pub grow_links-requires-clause-inside : goal.grow_links-requires-clause-inside
 grow_links-requires-clause-inside c name place at =
@@ -122,14 +135,14 @@ module _ (c : goal.After-added-in-Ok-1) where
   add_next : AreWithParents (view c.self.inside) c.args.inserted.now.items c.args.dropped.now.items c.args.parents.now.names.items c.args.parents.now.ends.items
   add_next = given c.self.inside c.self.view_is c.requires.next
 
-  add_placed : (name : RowName) → get name_cmp c.add_places.new.places name ≡ place_of (whole c.self.inside add_next) name
-  add_placed = placed c.self.inside add_next c.add_places.new.places c.in_ok-add_places.ensures.ok (c.as_slice.ensures.value ∙ c.reserve_rows.ensures.rows) c.as_slice-2.ensures.value
+  add_placed : (name : RowName) → get name_cmp c.enter.new.places name ≡ place_of (whole c.self.inside add_next) name
+  add_placed = placed c.self.inside add_next c.enter.new.places c.in_ok-enter.ensures.ok (c.as_slice-old.ensures.value ∙ c.reserve_rows.ensures.rows) c.as_slice-news.ensures.value
 
   add_refs : pairs_of c.in-Ok.added.parents.items ≡ deletes_at (place_of (whole c.self.inside add_next)) (parents c.self.inside add_next)
-  add_refs = refs_are c.self.inside add_next c.in-Ok.added.parents.items c.add_places.new.places add_placed c.as_slice-3.ensures.value c.in-Ok.ensures.parents
+  add_refs = refs_are c.self.inside add_next c.in-Ok.added.parents.items c.enter.new.places add_placed c.as_slice.ensures.value c.in-Ok.ensures.parents
 
   add_names : pairs_of c.in-Ok.added.dropped.items ≡ deletes_at (place_of (whole c.self.inside add_next)) (drops c.self.inside add_next)
-  add_names = names_are c.self.inside add_next c.in-Ok.added.dropped.items c.add_places.new.places add_placed c.as_slice-4.ensures.value c.in-Ok.ensures.dropped
+  add_names = names_are c.self.inside add_next c.in-Ok.added.dropped.items c.enter.new.places add_placed c.as_slice-2.ensures.value c.in-Ok.ensures.dropped
 
   add_more : c.len-more.result ≡ length (news c.self.inside add_next)
   add_more = let rows = ap length add_next.changes.rows in omega (arith, rows, c.len-more.ensures)
@@ -214,11 +227,11 @@ module _ (c : goal.After-grounds-1) where
   count_next : AreWithParents (view c.self.inside) c.args.inserted.now.items c.args.dropped.now.items c.args.parents.now.names.items c.args.parents.now.ends.items
   count_next = given c.self.inside c.self.view_is c.requires.next
 
-  count_placed : (name : RowName) → get name_cmp c.add_places.new.places name ≡ place_of (whole c.self.inside count_next) name
-  count_placed = placed c.self.inside count_next c.add_places.new.places c.in_ok-add_places.ensures.ok (c.as_slice.ensures.value ∙ c.reserve_rows.ensures.rows) c.as_slice-2.ensures.value
+  count_placed : (name : RowName) → get name_cmp c.enter.new.places name ≡ place_of (whole c.self.inside count_next) name
+  count_placed = placed c.self.inside count_next c.enter.new.places c.in_ok-enter.ensures.ok (c.as_slice-old.ensures.value ∙ c.reserve_rows.ensures.rows) c.as_slice-news.ensures.value
 
   count_refs : pairs_of c.in-Ok.added.parents.items ≡ deletes_at (place_of (whole c.self.inside count_next)) (parents c.self.inside count_next)
-  count_refs = refs_are c.self.inside count_next c.in-Ok.added.parents.items c.add_places.new.places count_placed c.as_slice-3.ensures.value c.in-Ok.ensures.parents
+  count_refs = refs_are c.self.inside count_next c.in-Ok.added.parents.items c.enter.new.places count_placed c.as_slice.ensures.value c.in-Ok.ensures.parents
 
   count_rows : c.new-grounds.result.rows.now ≡ whole c.self.inside count_next
   count_rows = c.new-grounds.ensures.rows ∙ (rw (c.unwrap-2.ensures, c.reserve_rows.ensures.rows, count_next.changes.rows) at c.append.ensures.items)
@@ -262,42 +275,11 @@ recount-requires-clause-inside c =
     let next = count_next c in
     subst (λ (l : List Link). are_inside (length c.new-grounds.result.rows.now) l ≡ true) (sym (ap (λ (d : Linked). d.links) c.in-Ok.ensures.deleters))
     (subst (λ m. are_inside m (c.self.inside.deleters.links ++ names) ≡ true) (sym (ap length (count_rows c)))
-    (deleters_next c.self.invariant next.changes.next c.in-Ok.added.parents.items (count_refs c) names (names_are c.self.inside next names c.add_places.new.places (count_placed c) c.as_slice-4.ensures.value c.in-Ok.ensures.dropped)))
+    (deleters_next c.self.invariant next.changes.next c.in-Ok.added.parents.items (count_refs c) names (names_are c.self.inside next names c.enter.new.places (count_placed c) c.as_slice-2.ensures.value c.in-Ok.ensures.dropped)))
 
-pub recount-requires-clause-grouped : goal.recount-requires-clause-grouped
-recount-requires-clause-grouped c =
-    let inside = c.self.inside in
-    grouped_moved inside.shapes.items _ (whole inside (count_next c)) _ inside.groups.numbers.items _ (sym (count_shapes c)) (sym (count_rows c)) (sym c.reserve-2.ensures.numbers)
-    (grouped_more inside.shapes.items inside.rows.items (news inside (count_next c)) inside.groups.numbers.items c.self.invariant.sized c.self.invariant.grouped)
-
-pub recount-requires-clause-spare : goal.recount-requires-clause-spare
-recount-requires-clause-spare c = ap length c.reserve-2.ensures.least ∙ c.self.invariant.spare ∙ sym (ap length c.reserve-2.ensures.numbers)
-
-pub recount-requires-clause-old : goal.recount-requires-clause-old
-recount-requires-clause-old c keeps =
-    let size = ap length (count_rows c) in
-    let all = length-append c.self.inside.rows.items (news c.self.inside (count_next c)) in
-    let sized = c.self.invariant.sized (sym (ap keep_any (count_shapes c)) ∙ keeps) in
-    let len = ap length c.reserve-2.ensures.numbers in
-    omega (arith, size, all, sized, len)
-
-pub recount-requires-clause-room : goal.recount-requires-clause-room
-recount-requires-clause-room c keeps =
-    let size = ap length (count_rows c) in
-    let all = length-append c.self.inside.rows.items (news c.self.inside (count_next c)) in
-    let sized = c.self.invariant.sized (sym (ap keep_any (count_shapes c)) ∙ keeps) in
-    let room = c.in_ok-reserve-2.ensures.room (sym (ap keep_any c.new-grounds.ensures.shapes) ∙ keeps) in
-    let more = ap length (count_next c).changes.rows in
-    omega (arith, size, all, sized, room, more, c.len-more.ensures)
-
-pub recount-requires-clause-space : goal.recount-requires-clause-space
-recount-requires-clause-space c keeps =
-    let size = ap length (count_rows c) in
-    let all = length-append c.self.inside.rows.items (news c.self.inside (count_next c)) in
-    let sized = c.self.invariant.sized (sym (ap keep_any (count_shapes c)) ∙ keeps) in
-    let room = c.in_ok-reserve-2.ensures.space (sym (ap keep_any c.new-grounds.ensures.shapes) ∙ keeps) in
-    let more = ap length (count_next c).changes.rows in
-    omega (arith, size, all, sized, c.self.invariant.spare, room, more, c.len-more.ensures)
+pub recount-requires-clause-groups : goal.recount-requires-clause-groups
+recount-requires-clause-groups c =
+    groups_at (c.as_slice-shapes.ensures.value ∙ sym (count_shapes c)) (all_rows c.self.inside (count_next c) (c.as_slice-old.ensures.value ∙ c.reserve_rows.ensures.rows) c.as_slice-news.ensures.value ∙ sym (count_rows c)) c.in_ok-enter.ensures.groups
 
 pub unwrap-requires-4 : goal.unwrap-requires-4
 unwrap-requires-4 c =
@@ -314,12 +296,12 @@ invariant_of-self-2 c =
     let next = given inside c.self.view_is c.requires.next in
     let valid = next.changes.next in
     let rows = whole inside next in
-    let places = c.add_places.new.places in
-    let at = placed inside next places c.in_ok-add_places.ensures.ok (c.as_slice.ensures.value ∙ c.reserve_rows.ensures.rows) c.as_slice-2.ensures.value in
+    let places = c.enter.new.places in
+    let at = placed inside next places c.in_ok-enter.ensures.ok (c.as_slice-old.ensures.value ∙ c.reserve_rows.ensures.rows) c.as_slice-news.ensures.value in
     let refs = c.in-Ok.added.parents.items in
-    let refs_so = refs_are inside next refs places at c.as_slice-3.ensures.value c.in-Ok.ensures.parents in
+    let refs_so = refs_are inside next refs places at c.as_slice.ensures.value c.in-Ok.ensures.parents in
     let names = c.in-Ok.added.dropped.items in
-    let names_so = names_are inside next names places at c.as_slice-4.ensures.value c.in-Ok.ensures.dropped in
+    let names_so = names_are inside next names places at c.as_slice-2.ensures.value c.in-Ok.ensures.dropped in
     let links = inside.children.links ++ refs in
     let gone = inside.deleters.links ++ names in
     let children_are : c.grow_links.new.children.links ≡ links = ap (λ (d : Linked). d.links) c.in-Ok.ensures.children in
@@ -358,13 +340,14 @@ invariant_of-self-2 c =
           plain_settled inside.shapes.items rows links (λ k. count_by (is_of k) gone) c.recount.new.causes plain
           (subst (λ (l : List ℕ). (k : ℕ) → get_or l k 0 ≡ count_by (is_of k) gone + absent_times links l k) (sym stays) (counts plain))
     ] in
+    let grouped : AreGroupsOf inside.shapes.items rows c.enter.new.groups =
+    groups_at c.as_slice-shapes.ensures.value (all_rows inside next (c.as_slice-old.ensures.value ∙ c.reserve_rows.ensures.rows) c.as_slice-news.ensures.value) c.in_ok-enter.ensures.groups in
     let child_len = ap length children_are in
     let gone_len = ap length deleters_are in
     let deleted = rw (c.unwrap-3.ensures, c.reserve.ensures.items, next.changes.names) at c.append-2.ensures.items in
     let ended = rw (c.unwrap-4.ensures, c.reserve_rows.ensures.ends) at c.append-3.ensures.items in
     rw (rows_so, deleted, last, ended, c.in-Ok.ensures.children, c.in-Ok.ensures.deleters)
-    (kept_next c.self.invariant valid refs refs_so next.changes.small places (c.len-first.result + c.len-more.result) c.recount.new.causes c.args.parents.now.ends.items c.recount.new.groups.numbers.items c.recount.new.groups.least.items c.recount.new.groups.nexts.items names
+    (kept_next c.self.invariant valid refs refs_so next.changes.small places (c.len-first.result + c.len-more.result) c.recount.new.causes c.args.parents.now.ends.items c.recount.new.groups names
     at names_so (ends_are inside next) (omega (arith, c.len-first.ensures, c.len-more.ensures, few, sum)) (c.recount.auto.causes ∙ ap length (c.as_mut_slice-causes-2.ensures.value ∙ front) ∙ c.add_causes.auto.causes ∙ len)
     (omega (arith, child_len, c.grow_links.ensures.few_children)) (omega (arith, gone_len, c.grow_links.ensures.few_deleters)) settled
-    (grouped_moved _ inside.shapes.items _ rows _ _ shapes_now rows_now refl c.recount.ensures.grouped)
-    (λ keeps. c.recount.ensures.all (ap keep_any shapes_now ∙ keeps) ∙ ap length rows_now) c.recount.ensures.spare c.recount.ensures.threaded)
+    (groups_moved grouped c.recount.new.groups (λ key. ap (λ v. first_of v key) c.recount.ensures.values) c.recount.ensures.numbers c.recount.ensures.least c.recount.ensures.nexts))

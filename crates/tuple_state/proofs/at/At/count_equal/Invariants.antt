@@ -5,7 +5,7 @@ use Rattle.row_check.specs.Comparisons.{compares}
 use Rattle.row_check.specs.Meaning.{value_at}
 use Rattle.table_model.specs.Verdicts.{in_table}
 use Rattle.tuple_state.proofs.Counting.{seen_on}
-use Rattle.tuple_state.proofs.at.AtRowsAt.equal_rows.Given as goal
+use Rattle.tuple_state.proofs.at.At.count_equal.Given as goal
 
 -- the rows so far are counted
 abbrev pub invariant-loop-place : goal.invariant-loop-place
