@@ -13,4 +13,5 @@ pub mod Started
 pub mod Made
 pub mod Goes
 pub mod Reported
+pub mod Drawn
 mod Entries

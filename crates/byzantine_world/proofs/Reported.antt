@@ -96,7 +96,7 @@ shown_more ask (first ∷ sites) shown site replica (here, others, are, h, t) is
 
 -- ---- tables
 
-last_cases : {X : Type 0} (xs : List X) (y : X) (k : ℕ) (x : X) → slice_get (xs ++ y ∷ []) k ≡ Some x → (slice_get xs k ≡ Some x) ⊎ ((k ≡ length xs) × (y ≡ x))
+pub last_cases : {X : Type 0} (xs : List X) (y : X) (k : ℕ) (x : X) → slice_get (xs ++ y ∷ []) k ≡ Some x → (slice_get xs k ≡ Some x) ⊎ ((k ≡ length xs) × (y ≡ x))
 last_cases [] y zero x is = inr (refl, cc)
 last_cases [] y (suc k) x is = absurd cc
 last_cases (z ∷ xs) y zero x is = inl is

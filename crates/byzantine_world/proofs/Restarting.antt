@@ -17,9 +17,9 @@ use Rattle.world_rules.proofs.Schemas.{SchemaLaws}
 use Rattle.world_rules.proofs.Sites.{SiteMoves, restart_moves}
 
 module _ (laws : SchemaLaws) (sites : List SiteData) (sessions : List (Option Talk)) (st : IsStanding sites sessions) (r choice : ℕ) (site new : SiteData) (there : slice_get sites r ≡ Some site)
-    (restarts : Restarts is_luhn site new) where
+    (restarts : Restarts is_luhn choice site new) where
   moves : SiteMoves st.schema site new
-  moves = restart_moves laws is_luhn st.schema site new st.taken (st.each r site there).0 restarts
+  moves = restart_moves laws is_luhn st.schema choice site new st.taken (st.each r site there).0 restarts
 
   grow : Grow st.schema.rule sites (set sites r new)
   grow = grow_one sites sessions st r site there new moves.extends

@@ -8,12 +8,14 @@ use Rattle.row_check.specs.Checksum.{is_luhn}
 use Rattle.confluence_test.specs.Taking.{RefusesSchema}
 use Rattle.confluence_test.specs.declared.refusal.SchemaRefusal.{SchemaRefusal}
 use Rattle.confluence_test.specs.declared.refusal.SchemaRefusal.TheVariants as refusals
+use Rattle.lms_tree.specs.declared.seed.KeyTypes.{KeyTypes}
 use Rattle.schema.specs.Data.{SchemaData}
 use Rattle.schema_text.specs.Schemas.{Declares}
 use Rattle.byzantine_world.specs.Begun.{AreNone, IsBegun, IsNewOf, IsWorldCause, refusal_fault}
 use Rattle.byzantine_world.specs.Codes.{WorldCode, talk_over}
 use Rattle.byzantine_world.specs.Standing.{IsStanding, IsTalkSound}
 use Rattle.byzantine_world.specs.declared.talk.Talk.{Talk}
+use Rattle.world_rules.specs.Drawn.{HaveDrawnKeys}
 use Rattle.world_rules.specs.Happens.{IsNew, IsNewSite, begins}
 use Rattle.world_rules.specs.Worlds.{SiteData, WorldData, flat}
 use Rattle.world_rules.proofs.Schemas.{SchemaLaws}
@@ -63,8 +65,9 @@ module _ (laws : SchemaLaws) (text : List ℕ) (count : ℕ) (sites : List SiteD
     met = refl;
   }
 
-  pub begun : (code : WorldCode) → code.sites ≡ sites → code.talks ≡ talks → code.is_over ≡ false → IsBegun is_luhn text count code
-  begun code sites_are talks_are runs = record {
+  pub begun : (types : KeyTypes) (number : ℕ) (code : WorldCode) → HaveDrawnKeys types number sites → code.sites ≡ sites → code.talks ≡ talks → code.is_over ≡ false
+      → IsBegun is_luhn text count types number code
+  begun types number code keys sites_are talks_are runs = record {
     schema = schema;
     world = first;
     new = is_new;
@@ -74,6 +77,7 @@ module _ (laws : SchemaLaws) (text : List ℕ) (count : ℕ) (sites : List SiteD
     };
     text_is = head.text_is;
     count_is = many;
+    keys = keys;
     runs = runs;
   }
 
@@ -94,11 +98,12 @@ first_there : (sites : List SiteData) → 1 ≤ length sites → (site : SiteDat
 first_there [] low = let none : 1 ≤ 0 = low in absurd (omega arith)
 first_there (site ∷ sites) low = (site, refl)
 
-pub begins_with : SchemaLaws → (text : List ℕ) (count : ℕ) (sites : List SiteData) (talks : List (Option Talk)) → 1 ≤ count → count ≤ 16 → length sites ≡ count → All (IsNewOf text count) sites
-    → length talks ≡ 256 → AreNone talks → IsBegun is_luhn text count (record { sites = sites; talks = talks; is_over = false })
-begins_with laws text count sites talks some few many new free none =
+pub begins_with : SchemaLaws → (text : List ℕ) (count : ℕ) (types : KeyTypes) (number : ℕ) (sites : List SiteData) (talks : List (Option Talk)) → 1 ≤ count → count ≤ 16 → length sites ≡ count
+    → All (IsNewOf text count) sites → HaveDrawnKeys types number sites → length talks ≡ 256 → AreNone talks
+    → IsBegun is_luhn text count types number (record { sites = sites; talks = talks; is_over = false })
+begins_with laws text count types number sites talks some few many new keys free none =
     let first = first_there sites (subst (λ n. 1 ≤ n) (sym many) some) in
-    begun laws text count sites talks first.0 few many new free none first.1 (record { sites = sites; talks = talks; is_over = false }) refl refl refl
+    begun laws text count sites talks first.0 few many new free none first.1 types number (record { sites = sites; talks = talks; is_over = false }) keys refl refl refl
 
 pub stands_first : SchemaLaws → (text : List ℕ) (count : ℕ) (sites : List SiteData) (talks : List (Option Talk)) → 1 ≤ count → count ≤ 16 → length sites ≡ count → All (IsNewOf text count) sites
     → length talks ≡ 256 → AreNone talks → IsStanding sites talks

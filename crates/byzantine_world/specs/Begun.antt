@@ -8,12 +8,14 @@ use Rattle.schema.specs.Data.{Meaning, SchemaData}
 use Rattle.schema_text.specs.declared.fault.SchemaFault.{SchemaFault}
 use Rattle.table_model.specs.declared.counterexample.Counterexample.{Counterexample}
 use Rattle.table_model.specs.declared.invariant.Invariant.{Invariant}
+use Rattle.lms_tree.specs.declared.seed.KeyTypes.{KeyTypes}
 use Rattle.byzantine_world.specs.Codes.{ShowsWorld, WorldCode}
 use Rattle.byzantine_world.specs.declared.talk.Talk.{Talk}
 use Rattle.byzantine_world.specs.declared.world_fault.WorldFault.{WorldFault}
 use Rattle.byzantine_world.specs.declared.world_fault.WorldFault.TheVariants.{BadSchema, NotConfluent, Limit, Memory}
 use Rattle.world_rules.specs.declared.fault.SiteFault.{SiteFault}
 use Rattle.world_rules.specs.declared.fault.SiteFault.TheVariants as sites
+use Rattle.world_rules.specs.Drawn.{HaveDrawnKeys}
 use Rattle.world_rules.specs.Happens.{IsNew, IsNewSite}
 use Rattle.world_rules.specs.Worlds.{SiteData, WorldData}
 
@@ -27,14 +29,15 @@ pub record IsNewOf (text : List ℕ) (count : ℕ) (site : SiteData) : Type 0 wh
 abbrev pub AreNone : List (Option Talk) → Type 0
 AreNone talks = All (λ (talk : Option Talk). talk ≡ None) talks
 
--- The code is that of a new world of so many replicas, of the schema that the text declares.
-pub record IsBegun (ask : Meaning) (text : List ℕ) (count : ℕ) (code : WorldCode) : Type 0 where
+-- The code is that of a new world of so many replicas, of the schema that the text declares, each with the key of these types that the number draws for its place.
+pub record IsBegun (ask : Meaning) (text : List ℕ) (count : ℕ) (types : KeyTypes) (number : ℕ) (code : WorldCode) : Type 0 where
   pub schema : SchemaData
   pub world : WorldData
   pub new : IsNew ask schema world
   pub shows : ShowsWorld code world
   pub text_is : schema.text ≡ text
   pub count_is : length world.sites ≡ count
+  pub keys : HaveDrawnKeys types number world.sites
   pub runs : code.is_over ≡ false
 
 -- The text declares no schema; or an invariant of it does not survive merging; or it is taken, and there are to be no replicas or more than 16. Want of memory

@@ -5,6 +5,7 @@ ghost use Rattle.confluence_test.specs.Taking.{TakesSchema};
 ghost use Rattle.row_check.specs.Checksum.{is_luhn};
 ghost use Rattle.schema.specs.Data.{SchemaData};
 ghost use Rattle.byzantine_world.specs.Begun.{AreNone, IsNewOf, IsWorldCause, refusal_fault};
+ghost use Rattle.world_rules.specs.Drawn.{HaveDrawnKeys};
 
 use crate::talk::Talk;
 use crate::world_fault::WorldFault;
@@ -59,6 +60,7 @@ pub(crate) fn sites_of(
     requires { count ≤ 16 }
     ensures new { IfOk result (λ sites. All (IsNewOf text.now count) sites.items) }
     ensures many { IfOk result (λ sites. length sites.items ≡ count) }
+    ensures keys { IfOk result (λ sites. HaveDrawnKeys types words.old sites.items) }
     ensures refused { IfErr result (λ why. IsWorldCause is_luhn text.now count why) }
 {
     let mut sites = Vec::with_capacity(alloc, count as usize)?;

@@ -52,7 +52,7 @@ impl Model for World {
 
 impl World {
     /// A world of `count` replicas, 1 to 16, of the schema that the text declares. The keys, and all random words
-    /// later, are those of the number.
+    /// later, are those of the number: each replica has the key that six words of its own draw, so no two have one.
     pub fn new(
         alloc: Global,
         text: &[u8],
@@ -60,7 +60,7 @@ impl World {
         types: KeyTypes,
         number: u64,
     ) -> Result<World, WorldFault>
-        ensures new { IfOk result (λ world. IsBegun is_luhn text.now count world) }
+        ensures new { IfOk result (λ world. IsBegun is_luhn text.now count types number world) }
         ensures refused { IfErr result (λ why. IsWorldCause is_luhn text.now count why) }
     {
         one_schema();

@@ -1,5 +1,5 @@
 -- The words of a number, and the stream that they are.
-use Rattle.std.specs.Prelude.{ℕ, ◌+◌, ◌/◌, ◌^◌, List}
+use Rattle.std.specs.Prelude.{ℕ, zero, suc, ◌+◌, ◌/◌, ◌^◌, List}
 use Rattle.std.specs.Int.{w64, to_be_bytes}
 use Rattle.rand_core.specs.Steps.{Steps, first_bytes, word_bytes}
 use Rattle.rand_xoshiro.specs.SplitMix64.{mix_u64}
@@ -7,6 +7,15 @@ use Rattle.rand_xoshiro.specs.SplitMix64.{mix_u64}
 -- the next word at a state, and the state after it
 abbrev pub next_word : ℕ → ℕ × ℕ
 next_word state = mix_u64 state
+
+-- the state behind so many words
+unfoldable pub state_after : ℕ → ℕ → ℕ
+state_after zero state = state
+state_after (suc n) state = (next_word (state_after n state)).1
+
+-- the word that stands behind so many words of a number
+abbrev pub word_at : ℕ → ℕ → ℕ
+word_at number place = (next_word (state_after place number)).0
 
 -- n bytes from words, high byte first; what a last word has over is dropped
 abbrev pub fill_from_words : ℕ → ℕ → List ℕ × ℕ

@@ -6,7 +6,7 @@ use Rattle.byzantine_world.specs.Begun.{IsBegun}
 use Rattle.byzantine_world.specs.Codes.{ShowsWorld, WorldCode}
 use Rattle.byzantine_world.specs.Shown.{AreShownReplicas}
 use Rattle.schema.specs.Data.{Meaning}
-use Rattle.world_commands.specs.Answers.{Reports}
+use Rattle.world_commands.specs.Answers.{Reports, types_of}
 use Rattle.world_commands.specs.Lines.{CarriesOn, CarriesRound, RunsOut, and_line, and_round, begins, has_carried, none}
 use Rattle.world_commands.specs.Running.{LineDone, LinesDone}
 use Rattle.world_commands.specs.Shown.{IsShown}
@@ -95,7 +95,7 @@ going_on ask all line after old code code' report mid report' g step = record {
 
 -- ---- a report
 
-pub reported : (ask : Meaning) (audit : Bool) (script : Script) (begun code : WorldCode) (so_far report : List ℕ) → IsBegun ask script.schema script.replicas begun
+pub reported : (ask : Meaning) (audit : Bool) (script : Script) (begun code : WorldCode) (so_far report : List ℕ) → IsBegun ask script.schema script.replicas (types_of script) script.number begun
     → ((w : WorldData) → ShowsWorld begun w → LinesDone ask w script.lines code [] so_far)
     → ((w : WorldData) → ShowsWorld code w → (text : List ℕ) × IsShown ask audit w text × (report ≡ so_far ++ text)) → Reports ask audit script report
 reported ask audit script begun code so_far report b run show =
@@ -110,6 +110,7 @@ reported ask audit script begun code so_far report b run show =
       new = b.new;
       of_script = b.text_is;
       count = b.count_is;
+      keys = b.keys;
       happen = d.happen;
       shows = s.1;
       is = s.2 ∙ ap (λ (t : List ℕ). t ++ s.0) d.added;

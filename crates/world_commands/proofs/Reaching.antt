@@ -26,7 +26,7 @@ by_line ask (One number event) first w next missed here happens = worlds.goes w 
 by_line ask (Run number session) first w next missed here happens =
     by_round ask session first happens.0.mid next _ (by_rounds ask session first w happens.0.mid here happens.0.carried) happens.0.rests
 
-by_lines : (ask : Meaning) (first : WorldData) (all : List Line) (next : WorldData) (missed : List Missed) → LinesHappen ask first all missed next → Reaches ask first next
+pub by_lines : (ask : Meaning) (first : WorldData) (all : List Line) (next : WorldData) (missed : List Missed) → LinesHappen ask first all missed next → Reaches ask first next
 by_lines ask first all next missed (lines.none n e) = worlds.begins n e
 by_lines ask first all next missed (lines.and_line before line was more mid n happen last) = by_line ask line first mid n more (by_lines ask first before mid was happen) last
 

@@ -17,6 +17,7 @@ use Rattle.schema_verdict.specs.Inputs.{IsWholeText}
 use Rattle.schema_verdict.specs.Verdict.{OutcomeOf, Prints}
 use Rattle.schema_verdict.specs.Verdict as verdicts
 use Rattle.schema_verdict.specs.Written.{Puts, SinkState}
+use Rattle.lms_tree.specs.declared.seed.KeyTypes.{KeyTypes}
 use Rattle.schema_verdict.specs.declared.status.TheConstants.{DONE, OUT_OF_MEMORY, REFUSED, STREAM_FAULT}
 use Rattle.table_model.specs.Visible.{rules_with}
 use Rattle.table_model.specs.declared.counterexample.Counterexample.{Counterexample}
@@ -27,6 +28,7 @@ use Rattle.world_commands.specs.declared.refusal.WorldRefusal.{WorldRefusal}
 use Rattle.world_commands.specs.declared.refusal.WorldRefusal.TheVariants.{NotTaken, AtLine, Stream}
 use Rattle.world_report.specs.Reports.{missed_text}
 use Rattle.world_report.specs.declared.shown.Missed.{Missed}
+use Rattle.world_rules.specs.Drawn.{HaveDrawnKeys}
 use Rattle.world_rules.specs.Happens.{IsNew}
 use Rattle.world_rules.specs.Worlds.{WorldData}
 use Rattle.world_script.specs.Scripts.{FirstFault, IsScript}
@@ -54,7 +56,11 @@ from_script errors.Memory = NotTaken Memory
 
 -- ---- world
 
--- The text is the report of a script: from a new world of its schema, with its replicas, what its lines say happens, one after another. First stands what is
+-- the types of the keys of a script's replicas
+abbrev pub types_of : Script → KeyTypes
+types_of script = record { lms = script.lms; ots = script.ots }
+
+-- The text is the report of a script: from a new world of its schema, with its replicas, each with the key that the script's number draws for its place, what its lines say happens, one after another. First stands what is
 -- reported of lines, and then what is shown of the last world.
 pub record Reports (ask : Meaning) (audit : Bool) (script : Script) (text : List ℕ) : Type 0 where
   pub schema : SchemaData
@@ -65,6 +71,7 @@ pub record Reports (ask : Meaning) (audit : Bool) (script : Script) (text : List
   pub new : IsNew ask schema first
   pub of_script : schema.text ≡ script.schema
   pub count : length first.sites ≡ script.replicas
+  pub keys : HaveDrawnKeys (types_of script) script.number first.sites
   pub happen : LinesHappen ask first script.lines missed last
   pub shows : IsShown ask audit last shown
   pub is : text ≡ flat_map missed_text missed ++ shown

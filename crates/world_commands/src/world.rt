@@ -4,7 +4,7 @@ ghost use Rattle.std.specs.Prelude.{◌≡◌, ◌⊎◌, IfErr, IfOk, Err, Ok};
 ghost use Rattle.std.specs.List.{AllByRecursion};
 ghost use Rattle.byzantine_world.specs.Begun.{IsBegun};
 ghost use Rattle.row_check.specs.Checksum.{is_luhn};
-ghost use Rattle.world_commands.specs.Answers.{IsFault, Reports, WorldAnswer};
+ghost use Rattle.world_commands.specs.Answers.{IsFault, Reports, WorldAnswer, types_of};
 ghost use Rattle.world_script.specs.Lines.{HasForm};
 
 use crate::WorldRefusal;
@@ -53,7 +53,8 @@ fn report_of(alloc: Global, script: &Script, audit: bool) -> Result<Vec<u8>, All
 
 /// The world that a script begins with. Its schema is taken and its replicas are 1 to 16, so what is lacking is memory.
 fn world_of(alloc: Global, script: &Script) -> Result<World, AllocError>
-    ensures { IfOk result (λ world. IsBegun is_luhn script.now.schema script.now.replicas world) }
+    ensures { IfOk result (λ world. IsBegun is_luhn script.now.schema script.now.replicas (types_of script.now)
+        script.now.number world) }
 {
     let types = KeyTypes {
         lms: script.lms,

@@ -33,7 +33,7 @@ record IsBy (w : WorldData) (r : ℕ) (u : List ℕ) : Type 0 where
 is_same : (m n : ℕ) → m ≡ n → (m == n) ≡ true
 is_same m n e = grind (arith, nat_tests)
 
-one_index : (a b : SignedData) → a.replica ≡ b.replica → a.index ≡ b.index → same_index a b ≡ true
+pub one_index : (a b : SignedData) → a.replica ≡ b.replica → a.index ≡ b.index → same_index a b ≡ true
 one_index a b replica index = both (a.replica == b.replica) (a.index == b.index) (is_same a.replica b.replica replica) (is_same a.index b.index index)
   where
     both : (p q : Bool) → p ≡ true → q ≡ true → (p && q) ≡ true

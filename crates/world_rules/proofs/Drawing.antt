@@ -1,13 +1,14 @@
--- A key that is drawn from numbered words stands in its part.
-use Rattle.std.proofs.Common.{◌≡◌, ℕ, zero, suc, ◌+◌, ◌-◌, ◌*◌, ◌/◌, ◌≤◌, ◌<◌, ◌^◌, List, [], ◌++◌, length, refl, sym, ap, ap₂, subst, ◌∙◌, arith, length-append, length-take}
+-- A key that is drawn from numbered words stands in its part, and is drawn at no other place.
+use Rattle.std.proofs.Common.{◌≡◌, ℕ, ◌+◌, ◌-◌, ◌*◌, ◌/◌, ◌≤◌, ◌<◌, ◌^◌, List, [], ◌++◌, length, refl, sym, ap, ap₂, subst, ◌∙◌, arith, length-append, length-take}
 use Rattle.std.specs.Int.{w32, w64, to_be_bytes}
 use Rattle.rand_core.specs.Steps.{stream_of, word_bytes}
 use Rattle.rand_core.specs.Stream.{Stream, fill_bytes}
 use Rattle.rand_core.proofs.StepsLemmas.{fill_bytes-stream_of}
-use Rattle.numbered_words.specs.Numbered.{fill_from_words, next_word, word_steps}
+use Rattle.numbered_words.specs.Numbered.{fill_from_words, next_word, state_after, word_steps}
+use Rattle.numbered_words.proofs.Drawn.{after_more, one_draw, words_length, words_state}
 use Rattle.bec_disk.specs.Replay.{MemDiskState, new_disk, state_of}
 use Rattle.bec_disk.proofs.Gates.{gated-whole}
-use Rattle.key_index.specs.Creating.{CreatesKey, drawn_key}
+use Rattle.key_index.specs.Creating.{CreatesKey, after_draw, drawn_key}
 use Rattle.key_index.specs.KeyState.{KeyParts, KeyState}
 use Rattle.key_index.specs.Opening.{Holds}
 use Rattle.key_index.specs.Payload.{IsPayload, payload_of}
@@ -16,20 +17,9 @@ use Rattle.lm_ots.specs.declared.ots_type.OtsType.{OtsType}
 use Rattle.lms_tree.specs.LmsKind.{type_word}
 use Rattle.lms_tree.specs.SecretKey.{SecretData}
 use Rattle.lms_tree.specs.declared.lms_type.LmsType.{LmsType}
+use Rattle.lms_tree.specs.declared.seed.KeyTypes.{KeyTypes}
+use Rattle.world_rules.specs.Drawn.{key_for}
 use Rattle.world_rules.specs.Sites.{fresh_parts}
-
-word_length : (n : ℕ) → length (to_be_bytes w64 n) ≡ 8
-word_length n = refl
-
-words_length : (k state : ℕ) → length (word_bytes (to_be_bytes w64) next_word k state).0 ≡ 8 * k
-unfolding word_bytes
-words_length zero state = refl
-words_length (suc k) state =
-    let before = word_bytes (to_be_bytes w64) next_word k state in
-    let word = to_be_bytes w64 (next_word before.1).0 in
-    let most = words_length k state in
-    let last : length word ≡ 8 = word_length (next_word before.1).0 in
-    omega (arith, length-append before.0 word, most, last)
 
 filled : (n k state : ℕ) → (n + 7) / 8 ≡ k → n ≤ 8 * k → length (fill_from_words n state).0 ≡ n
 filled n k state is within =
@@ -81,3 +71,34 @@ pub holds_made : (lms : LmsType) (ots : OtsType) (state : ℕ) (key used : MemDi
 holds_made lms ots state key used store k u c =
     holds_drawn lms ots state store (subst (λ (parts : KeyParts). CreatesKey (drawn_key lms ots (stream_of word_steps state)) parts store)
     (ap₂ (λ (a b : MemDiskState). record { key = state_of a; key_faults = a.plan.faults; used = state_of b; used_faults = b.plan.faults }) k u) c)
+
+-- ---- where it is drawn
+
+-- behind two words and four more are six
+pub after_key : (state : ℕ) → after_draw (stream_of word_steps state) ≡ stream_of word_steps (state_after 6 state)
+after_key state =
+    ap (λ (s : Stream). (fill_bytes 32 s).1) (next_stream 16 state) ∙ next_stream 32 (fill_from_words 16 state).1
+    ∙ ap (λ (s : ℕ). stream_of word_steps (fill_from_words 32 s).1) (words_state 2 state) ∙ ap (stream_of word_steps) (words_state 4 (state_after 2 state) ∙ after_more 4 2 state)
+
+-- what an identifier is drawn as
+ident_of : (types : KeyTypes) (number r : ℕ) → (key_for types number r).ident ≡ (fill_from_words 16 (state_after (6 * r) number)).0
+ident_of types number r = ap (λ (p : List ℕ × Stream). p.0) (fill_bytes-stream_of word_steps 16 (state_after (6 * r) number))
+
+-- one identifier is drawn at one place
+pub one_place : (types : KeyTypes) (number r q : ℕ) → r ≤ 16 → q ≤ 16 → (key_for types number r).ident ≡ (key_for types number q).ident → r ≡ q
+one_place types number r q low below same =
+    let one = one_draw number 16 (6 * r) (6 * q) (omega arith) (omega arith) (omega arith) (sym (ident_of types number r) ∙ same ∙ ident_of types number q) in
+    omega (arith, one)
+
+-- what a SEED is drawn as
+start_of : (types : KeyTypes) (number r : ℕ) → (key_for types number r).start ≡ (fill_from_words 32 (state_after (2 + 6 * r) number)).0
+start_of types number r =
+    let state = state_after (6 * r) number in
+    ap (λ (s : Stream). (fill_bytes 32 s).0) (next_stream 16 state) ∙ ap (λ (p : List ℕ × Stream). p.0) (fill_bytes-stream_of word_steps 32 (fill_from_words 16 state).1)
+    ∙ ap (λ (s : ℕ). (fill_from_words 32 s).0) (words_state 2 state ∙ after_more 2 (6 * r) number)
+
+-- one SEED is drawn at one place
+pub one_seed : (types : KeyTypes) (number r q : ℕ) → r ≤ 16 → q ≤ 16 → (key_for types number r).start ≡ (key_for types number q).start → r ≡ q
+one_seed types number r q low below same =
+    let one = one_draw number 32 (2 + 6 * r) (2 + 6 * q) (omega arith) (omega arith) (omega arith) (sym (start_of types number r) ∙ same ∙ start_of types number q) in
+    omega (arith, one)

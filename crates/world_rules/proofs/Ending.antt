@@ -1,9 +1,12 @@
 -- Where an end ends by a frame, what it hands out says how.
 use Rattle.std.proofs.Common.{◌≡◌, ℕ, Bool, true, false, ◌&&◌, Option, Some, None, Result, Ok, Err, IfOk, List, ◌++◌, map, refl, ap, sym, subst, ◌∙◌}
 use Rattle.std.specs.Prelude.{if◌then◌else◌, slice_set}
+use Rattle.bec_bytes.specs.Causes.{Rose}
+use Rattle.replica.specs.Holding.{KeepsOn}
+use Rattle.replica.specs.Replicas.{ReplicaState}
 use Rattle.session_rules.specs.Commit.{Committed, Added, TooMuch, DiskFault}
 use Rattle.session_rules.specs.declared.end.End.{End}
-use Rattle.session_rules.specs.declared.end.End.TheVariants.{Done, Peer, Full}
+use Rattle.session_rules.specs.declared.end.End.TheVariants.{Done, Peer, Full, Store}
 use Rattle.session_rules.specs.declared.peer_fault.PeerFault.{PeerFault}
 use Rattle.session_rules.specs.declared.peer_fault.PeerFault.TheVariants.{BadFrame, Version}
 use Rattle.session_rules.specs.declared.role.Role.{Role}
@@ -20,7 +23,7 @@ use Rattle.update_model.specs.declared.update_id.UpdateId.{UpdateId}
 use Rattle.update_model.specs.Batch.{Limits, store_limits}
 use Rattle.update_model.specs.Entry.{Entry}
 use Rattle.update_model.specs.Graph.{is_within}
-use Rattle.world_rules.specs.Happens.{RemembersOf, is_done}
+use Rattle.world_rules.specs.Happens.{RemembersOf, TakesOne, is_done}
 use Rattle.world_rules.specs.Worlds.{SiteData, held_by}
 
 abbrev ended_of : SessionData → Option End
@@ -83,6 +86,17 @@ told (Ok out) limits k next before after frame fine s runs =
     ended_as_told limits (seen before k) (map entry_of before) (frame_of frame) (seen after next) (out_of (map entry_of after) out) (map entry_of after) runs
     (subst (λ (b : Bool). kept.StepsBy b limits k before frame next out after) fine s.0)
 told (Err error) limits k next before after frame fine s runs = tt
+
+-- What a session does with a frame over a replica's store is a step of the rules, and it ends by the store only where its disk counted a fault.
+pub takes_one : {E : Type 0} (result : Result Out E) (old new : ReplicaState) (k next : Kept) (frame : CheckedFrame) → k.failed ≡ false
+    → IfOk result (λ out. StepsTo store_limits k old.history.members frame next out new.history.members) → KeepsOn old new → IfOk result (λ out. out.end ≡ Some Store → Rose old.log.faults new.log.faults)
+    → IfOk result (λ out. TakesOne old (seen old.history.members k) (frame_of frame) (seen new.history.members next) (out_of (map entry_of new.history.members) out) new)
+takes_one (Ok out) old new k next frame fine steps keeps store = record {
+  step = subst (λ (b : Bool). kept.StepsBy b store_limits k old.history.members frame next out new.history.members) fine steps.0;
+  keeps = keeps;
+  store = store;
+}
+takes_one (Err error) old new k next frame fine steps keeps store = tt
 
 -- ---- what is remembered
 

@@ -346,10 +346,10 @@ stop_sounds schema w w' answer sound m =
     let next = record w { event = w.event + 1 } in
     subst (Sounds schema w) (sym m.is) (sounds schema w next sound (none_moves schema w next [] sound.sites refl (nothing_met w.met)) (λ k n is. (n, inl refl, inl is)))
 
-restart_sounds : SchemaLaws → (ask : Meaning) (schema : SchemaData) (w w' : WorldData) (r : ℕ) (answer : Stepped) → TakesSchema ask schema.text schema → IsSound schema w → RestartsIn ask w r answer w' → Sounds schema w w'
-restart_sounds laws ask schema w w' r answer taken sound m =
+restart_sounds : SchemaLaws → (ask : Meaning) (schema : SchemaData) (w w' : WorldData) (r choice : ℕ) (answer : Stepped) → TakesSchema ask schema.text schema → IsSound schema w → RestartsIn ask w r choice answer w' → Sounds schema w w'
+restart_sounds laws ask schema w w' r choice answer taken sound m =
     let next = record w { sites = set w.sites r m.new; sessions = map (cut_with r) w.sessions; met = w.met ++ met_by w.event (held_by m.new); event = w.event + 1 } in
-    let moves = one_moves schema w next r m.site m.new (met_by w.event (held_by m.new)) sound.sites m.there (restart_moves laws ask schema m.site m.new taken (sound.sites r m.site m.there) m.restarts) refl refl in
+    let moves = one_moves schema w next r m.site m.new (met_by w.event (held_by m.new)) sound.sites m.there (restart_moves laws ask schema choice m.site m.new taken (sound.sites r m.site m.there) m.restarts) refl refl in
     subst (Sounds schema w) (sym m.is) (sounds schema w next sound moves (λ k n is. let was = session_cut w.sessions r k n is in (was.0, was.2, inl was.1)))
 
 -- ---- every event
@@ -364,4 +364,4 @@ event_sounds laws ask schema w w' true (Carry s forward) answer taken sound h = 
 event_sounds laws ask schema w w' true (Cut s) answer taken sound h = cut_sounds schema w w' s answer sound h
 event_sounds laws ask schema w w' true (Feed s bytes) answer taken sound h = feed_sounds schema w w' s bytes answer sound h
 event_sounds laws ask schema w w' true (Stop r calls) answer taken sound h = stop_sounds schema w w' answer sound h
-event_sounds laws ask schema w w' true (Restart r choice) answer taken sound h = restart_sounds laws ask schema w w' r answer taken sound h
+event_sounds laws ask schema w w' true (Restart r choice) answer taken sound h = restart_sounds laws ask schema w w' r choice answer taken sound h

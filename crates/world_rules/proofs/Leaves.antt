@@ -71,8 +71,8 @@ long_after (Err Memory) old new (inl same) long = same_long old new same long
 long_after (Err Memory) old new (inr signs) long = signs_long old new signs long
 
 -- a key that was opened
-restart_long : (ask : Meaning) (old new : SiteData) → Restarts ask old new → IsLong new.key
-restart_long ask old new r =
+restart_long : (ask : Meaning) (choice : ℕ) (old new : SiteData) → Restarts ask choice old new → IsLong new.key
+restart_long ask choice old new r =
     ap length (r.opens_key.taken refl) ∙ length-map r.used (λ (byte : ℕ). not (byte == 0)) ∙ r.opens_key.size refl
 
 -- ---- every event
@@ -109,7 +109,7 @@ event_long ask w w' true (Feed s bytes) answer long h =
 event_long ask w w' true (Stop r calls) answer long h = long_none w w' (ap (λ (x : WorldData). x.sites) h.is) long
 event_long ask w w' true (Restart r choice) answer long h =
     let next = record w { sites = set w.sites r h.new; sessions = map (cut_with r) w.sessions; met = w.met ++ met_by w.event (held_by h.new); event = w.event + 1 } in
-    subst AreLong (sym h.is) (long_one w next r h.new refl long (restart_long ask h.site h.new h.restarts))
+    subst AreLong (sym h.is) (long_one w next r h.new refl long (restart_long ask choice h.site h.new h.restarts))
 
 -- ---- the beginning
 

@@ -22,3 +22,4 @@ pub mod Drawing
 pub mod SignedSites
 pub mod Reopening
 pub mod NewSites
+pub mod Owning

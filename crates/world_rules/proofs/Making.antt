@@ -218,8 +218,8 @@ met_by_all event front (u ∷ us) =
       subst (λ (met : List MetData). AllByRecursion (λ v. WasMet met v) us) (append_assoc front (y ∷ []) (met_by event us)) rest,
     )
 
-restart_known : (ask : Meaning) (w w' : WorldData) (r : ℕ) (answer : Stepped) → AreKnown w → RestartsIn ask w r answer w' → AreKnown w'
-restart_known ask w w' r answer k m =
+restart_known : (ask : Meaning) (w w' : WorldData) (r choice : ℕ) (answer : Stepped) → AreKnown w → RestartsIn ask w r choice answer w' → AreKnown w'
+restart_known ask w w' r choice answer k m =
     let next = record w { sites = set w.sites r m.new; sessions = map (cut_with r) w.sessions; met = w.met ++ met_by w.event (held_by m.new); event = w.event + 1 } in
     subst AreKnown (sym m.is) (known_one w next r m.new (record { met = met_by w.event (held_by m.new); met_is = refl; signed = []; signed_is = sym (append-nil w.signed) }) refl k
     (each_weaker (λ u. WasMet (w.met ++ met_by w.event (held_by m.new)) u) (IsKnown next r) (λ u h. inl h) (held_by m.new) (met_by_all w.event w.met (held_by m.new))))
@@ -232,4 +232,4 @@ event_known ask schema w w' true (Carry s forward) answer sound long k h = carry
 event_known ask schema w w' true (Cut s) answer sound long k h = known_none w w' (nothing_more w w' (ap (λ (x : WorldData). x.met) h.is) (ap (λ (x : WorldData). x.signed) h.is)) (ap (λ (x : WorldData). x.sites) h.is) k
 event_known ask schema w w' true (Feed s bytes) answer sound long k h = feed_known schema w w' s bytes answer sound k h
 event_known ask schema w w' true (Stop r calls) answer sound long k h = known_none w w' (nothing_more w w' (ap (λ (x : WorldData). x.met) h.is) (ap (λ (x : WorldData). x.signed) h.is)) (ap (λ (x : WorldData). x.sites) h.is) k
-event_known ask schema w w' true (Restart r choice) answer sound long k h = restart_known ask w w' r answer k h
+event_known ask schema w w' true (Restart r choice) answer sound long k h = restart_known ask w w' r choice answer k h

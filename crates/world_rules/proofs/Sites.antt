@@ -299,9 +299,9 @@ used_is_taken image q is = ap (λ b. b) (get_or-map (λ (byte : ℕ). not (byte 
     nonzero : (byte : ℕ) → (byte ≡ 0 → ⊥) → not (byte == 0) ≡ true
     nonzero byte some = grind (arith, nat_tests)
 
-pub restart_moves : SchemaLaws → (ask : Meaning) (schema : SchemaData) (old new : SiteData) → TakesSchema ask schema.text schema → IsSiteSound schema old → Restarts ask old new → SiteMoves schema old new
-restart_moves laws ask schema old new taken s r =
-    let left : r.schema ≡ old.schema.seen = image-synced old.schema.seen r.schema (subst (λ (m : Moment). IsImage m r.schema) s.settled r.left_schema) in
+pub restart_moves : SchemaLaws → (ask : Meaning) (schema : SchemaData) (choice : ℕ) (old new : SiteData) → TakesSchema ask schema.text schema → IsSiteSound schema old → Restarts ask choice old new → SiteMoves schema old new
+restart_moves laws ask schema choice old new taken s r =
+    let left : r.schema ≡ old.schema.seen = image-synced old.schema.seen r.schema (subst (λ (m : Moment). IsImage m r.schema) s.settled r.left_schema.is_image) in
     let reads : r.schema ≡ whole_of (old.store.node ++ schema.text) = left ∙ s.declares in
     let declared = r.opened.declared refl in
     let both : new.store.node ++ new.store.history.schema.text ≡ old.store.node ++ schema.text =
@@ -311,11 +311,11 @@ restart_moves laws ask schema old new taken s r =
     let is : new.store.history.schema ≡ schema =
     laws.one ask schema.text new.store.history.schema schema (subst (λ (t : List ℕ). Declares ask t new.store.history.schema) text declared.taken.declares) taken.declares in
     let logset : IsLogset schema.rule r.updates (held_by new) = subst (λ (x : SchemaData). IsLogset x.rule r.updates (held_by new)) is (r.opened.list refl) in
-    let behind = begins_logset schema.rule r.updates (held_by new) (held_by old) logset s.members (s.on_disk r.updates r.left_updates) in
+    let behind = begins_logset schema.rule r.updates (held_by new) (held_by old) logset s.members (s.on_disk r.updates r.left_updates.is_image) in
     let e : Extends schema.rule (held_by old) (held_by new) = record { more = behind.0; begins = behind.1; members = logset.taken } in
     let run = r.any_moment.any_moment refl new.store.node new.store.history.schema (held_by new) declared (λ _. r.opened.list refl) in
     let same_used = r.opens_key.same.used_same in
-    let key_left : r.key ≡ old.key.parts.key.seen = image-synced old.key.parts.key.seen r.key (subst (λ (m : Moment). IsImage m r.key) s.key_settled r.left_key) in
+    let key_left : r.key ≡ old.key.parts.key.seen = image-synced old.key.parts.key.seen r.key (subst (λ (m : Moment). IsImage m r.key) s.key_settled r.left_key.is_image) in
     let holds : Holds r.key new.key.secret = r.opens_key.holds refl in
     let secret : new.key.secret ≡ old.key.secret = one_secret old.key.parts.key.seen new.key.secret old.key.secret (subst (λ (bytes : List ℕ). Holds bytes new.key.secret) key_left holds) s.key_holds in
     let same_part = r.opens_key.same.key_same in
@@ -336,9 +336,9 @@ restart_moves laws ask schema old new taken s r =
         key_settled = subst IsSettled (sym same_part) refl;
         key_holds = subst (λ (d : DiskState). Holds d.seen new.key.secret) (sym same_part) holds;
       };
-      log = restarts r.updates r.left_updates s.on_disk
+      log = restarts r.updates r.left_updates.is_image s.on_disk
           (weakened (fresh r.updates) new.store.log.disk (BeginsWith (stream_of (held_by new))) (BeginsWith (stream_of (held_by old))) run (λ tells c h. begins_less schema.rule (held_by old) (held_by new) c e h));
-      used = λ q h. restarts r.used r.left_used h (stays (fresh r.used) new.key.parts.used (IsUsed q) same_used (λ _. settled_image (fresh r.used) (IsUsed q) refl (h r.used r.left_used)));
-      taken = λ q h is. ap (λ (xs : List Bool). get_or xs q false) (r.opens_key.taken refl) ∙ used_is_taken r.used q (h r.used r.left_used);
+      used = λ q h. restarts r.used r.left_used.is_image h (stays (fresh r.used) new.key.parts.used (IsUsed q) same_used (λ _. settled_image (fresh r.used) (IsUsed q) refl (h r.used r.left_used.is_image)));
+      taken = λ q h is. ap (λ (xs : List Bool). get_or xs q false) (r.opens_key.taken refl) ∙ used_is_taken r.used q (h r.used r.left_used.is_image);
       secret = secret;
     }

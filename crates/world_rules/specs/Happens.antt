@@ -1,6 +1,7 @@
 -- What happens in a world.
 use Rattle.std.specs.Prelude.{◌≡◌, ◌⊎◌, ℕ, ◌+◌, ◌^◌, ◌<◌, ◌≤◌, ◌==◌, ◌&&◌, Bool, true, false, not, IsTrue, List, [], ◌∷◌, ◌++◌, length, map, is_some, is_none, nat_lt, Option, Some, None, Result, Ok, Err, slice_set, slice_index_or, if◌then◌else◌}
 use Rattle.bec_disk.specs.Disk.{DiskState, IsImage, IsSettled, LeavesOnly, EveryImage, synced_at}
+use Rattle.bec_bytes.specs.Causes.{Rose}
 use Rattle.bec_bytes.specs.Framed.{stream_of}
 use Rattle.confluence_test.specs.Taking.{TakesSchema}
 use Rattle.key_index.specs.Creating.{CreatesKey}
@@ -115,7 +116,7 @@ Answers (Err (Taken id)) answer = answer ≡ stepped.Refused 8
 Answers (Err (DiskFault side)) answer = answer ≡ stepped.Refused 5
 Answers (Err Memory) answer = ⊥
 
--- A replica makes an update with its own key, or is refused.
+-- A replica makes an update with its own key, or is refused. A disk is the cause only where it counted a fault.
 pub record MakesBy (ask : Meaning) (old : ReplicaState) (key : KeyState) (ops : List Op) (c : List ℕ) (result : Result UpdateId MakeFault) (new : ReplicaState) (key' : KeyState) : Type 0 where
   pub made : (id : UpdateId) → result ≡ Ok id → Makes ask old.history key.secret key.taken ops c id new.history
   pub refused : (why : MakeFault) → result ≡ Err why → IsMakeCause ask old.history key.secret key.taken ops c why × (new.history ≡ old.history)
@@ -124,6 +125,8 @@ pub record MakesBy (ask : Meaning) (old : ReplicaState) (key : KeyState) (ops : 
   pub any_moment : LeavesOnly old.log.disk new.log.disk (BeginsWith (stream_of old.history.members))
   pub used : (index : ℕ) → (IsTrue key.parts.used.tells → EveryImage key.parts.used.now (IsUsed index)) → LeavesOnly key.parts.used key'.parts.used (IsUsed index)
   pub on_disk : IsTrue new.log.disk.tells → EveryImage new.log.disk.now (BeginsWith (stream_of new.history.members))
+  pub key_failed : result ≡ Err (DiskFault Key) → Rose key.parts.used_faults key'.parts.used_faults
+  pub log_failed : result ≡ Err (DiskFault Log) → Rose old.log.faults new.log.faults
 
 -- The message of the update that names all heads was signed, at the least index that was not used.
 pub record SignsOne (r event : ℕ) (old : ReplicaState) (key : KeyState) (ops : List Op) (signs : List SignedData) : Type 0 where
@@ -218,10 +221,11 @@ met_in event (BadItem why) = []
 met_in event (Turn turn) = []
 met_in event (NoFrame place) = []
 
--- An end takes a frame by the rules of sessions, over what its replica holds.
+-- An end takes a frame by the rules of sessions, over what its replica holds. It ends by its store only where the store's disk counted a fault.
 pub record TakesOne (old : ReplicaState) (s : SessionData) (frame : FrameData) (next : SessionData) (out : OutData) (new : ReplicaState) : Type 0 where
   pub step : Steps store_limits s (map entry_of old.history.members) frame next out (map entry_of new.history.members)
   pub keeps : KeepsOn old new
+  pub store : out.end ≡ Some endings.Store → Rose old.log.faults new.log.faults
 
 -- Where the session is done, the replica remembers heads of the other.
 pub record RemembersOf (site : SiteData) (other : ℕ) (next : SessionData) (remembered : List (List UpdateId)) : Type 0 where
@@ -309,16 +313,22 @@ pub record StopsIn (w : WorldData) (answer : Stepped) (w' : WorldData) : Type 0 
 abbrev pub fresh : List ℕ → DiskState
 fresh bytes = record { tells = true; slot = None; seen = bytes; now = synced_at bytes; past = [] }
 
--- A replica opens what a crash may leave now of its parts.
-pub record Restarts (ask : Meaning) (old new : SiteData) : Type 0 where
+-- What a crash leaves of a disk by this number: one of its images, for 0 what was synced last, and for 1 what it reads as.
+pub record IsLeftBy (choice : ℕ) (disk : DiskState) (image : List ℕ) : Type 0 where
+  pub is_image : IsImage disk.now image
+  pub synced : choice ≡ 0 → image ≡ disk.now.synced
+  pub reads : choice ≡ 1 → image ≡ disk.seen
+
+-- A replica opens what a crash leaves of its parts by this number.
+pub record Restarts (ask : Meaning) (choice : ℕ) (old new : SiteData) : Type 0 where
   pub schema : List ℕ
   pub updates : List ℕ
   pub key : List ℕ
   pub used : List ℕ
-  pub left_schema : IsImage old.schema.now schema
-  pub left_updates : IsImage old.store.log.disk.now updates
-  pub left_key : IsImage old.key.parts.key.now key
-  pub left_used : IsImage old.key.parts.used.now used
+  pub left_schema : IsLeftBy choice old.schema schema
+  pub left_updates : IsLeftBy choice old.store.log.disk updates
+  pub left_key : IsLeftBy choice old.key.parts.key key
+  pub left_used : IsLeftBy choice old.key.parts.used used
   pub schema_is : new.schema ≡ fresh schema
   pub opened : IsOpened ask (fresh schema) (fresh updates) new.store
   pub any_moment : KeepsStore ask (fresh schema) (fresh updates) new.store.log.disk
@@ -330,11 +340,11 @@ pub record Restarts (ask : Meaning) (old new : SiteData) : Type 0 where
 abbrev pub met_by : ℕ → List (List ℕ) → List MetData
 met_by event updates = map (λ u. record { event = event; update = u }) updates
 
-pub record RestartsIn (ask : Meaning) (w : WorldData) (r : ℕ) (answer : Stepped) (w' : WorldData) : Type 0 where
+pub record RestartsIn (ask : Meaning) (w : WorldData) (r choice : ℕ) (answer : Stepped) (w' : WorldData) : Type 0 where
   pub site : SiteData
   pub there : site_at w r ≡ Some site
   pub new : SiteData
-  pub restarts : Restarts ask site new
+  pub restarts : Restarts ask choice site new
   pub done : answer ≡ stepped.Done
   pub is : w' ≡ record w { sites = slice_set w.sites r new; sessions = map (cut_with r) w.sessions; met = w.met ++ met_by w.event (held_by new); event = w.event + 1 }
 
@@ -348,7 +358,7 @@ HappensTo true ask w (Carry s forward) answer w' = CarriesIn w s forward answer 
 HappensTo true ask w (Cut s) answer w' = CutsIn w s answer w'
 HappensTo true ask w (Feed s bytes) answer w' = FeedsIn w s bytes answer w'
 HappensTo true ask w (Stop r calls) answer w' = StopsIn w answer w'
-HappensTo true ask w (Restart r choice) answer w' = RestartsIn ask w r answer w'
+HappensTo true ask w (Restart r choice) answer w' = RestartsIn ask w r choice answer w'
 
 -- One event: it happens where it finds what it names, and else nothing changes.
 abbrev pub Happens : Meaning → WorldData → Event → Stepped → WorldData → Type 0

@@ -5,4 +5,5 @@ pub mod Happens
 pub mod Laws
 pub mod Sites
 pub mod Creating
+pub mod Drawn
 pub mod Restarting

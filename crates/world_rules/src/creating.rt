@@ -1,9 +1,11 @@
 //! A replica that is made over empty disks.
 
-ghost use Rattle.std.specs.Prelude.{◌≡◌, IfOk, IfErr, [], length};
-ghost use Rattle.key_index.specs.Creating.{CreatesKey};
+ghost use Rattle.std.specs.Prelude.{◌≡◌, IfOk, IfErr, OnOk, [], length};
+ghost use Rattle.key_index.specs.Creating.{CreatesKey, drawn_key};
 ghost use Rattle.key_index.specs.Opening.{Holds};
 ghost use Rattle.lms_tree.specs.SecretKey.{SecretData};
+ghost use Rattle.numbered_words.specs.Numbered.{state_after, word_steps};
+ghost use Rattle.rand_core.specs.Steps.{stream_of};
 ghost use Rattle.row_check.specs.Checksum.{is_luhn};
 ghost use Rattle.world_rules.specs.Happens.{IsNewSite};
 ghost use Rattle.world_rules.specs.Creating.{IsSiteCause, cause_of};
@@ -21,8 +23,8 @@ use row_check::{Luhn, Native};
 use std::alloc::{AllocError, Global};
 
 impl Site {
-    /// A replica whose node has this id, whose store is of this schema and has no updates, and whose key is drawn from
-    /// the words. It remembers nothing of the replicas of its world, of which there are `count`.
+    /// A replica whose node has this id, whose store is of this schema and has no updates, and whose key is what the
+    /// next six words draw. It remembers nothing of the replicas of its world, of which there are `count`.
     ///
     /// What an empty disk in memory answers, and want of memory, are the only causes of [`SiteFault::Memory`].
     pub fn create(
@@ -36,6 +38,9 @@ impl Site {
         ensures new { IfOk result (λ site. IsNewSite is_luhn site.store.history.schema site) }
         ensures text { IfOk result (λ site. site.store.history.schema.text ≡ text.now) }
         ensures count { IfOk result (λ site. length site.remembered ≡ count) }
+        ensures key { IfOk result (λ site. site.key.secret ≡ drawn_key types.lms types.ots
+            (stream_of word_steps words.old)) }
+        ensures drawn { OnOk result (stream_of word_steps words.new ≡ stream_of word_steps (state_after 6 words.old)) }
         ensures refused { IfErr result (λ why. IsSiteCause is_luhn text.now why) }
     {
         let Ok(remembered) = no_heads(alloc, count) else {
@@ -60,7 +65,7 @@ impl Site {
     }
 }
 
-/// A key that is drawn from the words, over empty disks.
+/// The key that the next six words draw, over empty disks.
 fn draw_key(
     alloc: Global,
     types: KeyTypes,
@@ -68,6 +73,8 @@ fn draw_key(
 ) -> Result<KeyStore<MemDisk>, AllocError>
     ensures creates { IfOk result (λ key. (secret : SecretData) × CreatesKey secret (fresh_parts [] []) key) }
     ensures holds { IfOk result (λ key. Holds key.parts.key.seen key.secret) }
+    ensures secret { IfOk result (λ key. key.secret ≡ drawn_key types.lms types.ots (stream_of word_steps words.old)) }
+    ensures drawn { OnOk result (stream_of word_steps words.new ≡ stream_of word_steps (state_after 6 words.old)) }
 {
     let key = MemDisk::new(alloc);
     let used = MemDisk::new(alloc);

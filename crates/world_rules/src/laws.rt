@@ -1,10 +1,12 @@
 //! Laws of worlds. Each function does no work: its contract is a theorem over every list of events.
 
-ghost use Rattle.std.specs.Prelude.{◌≡◌, ℕ, List, Contains, Some, map};
+ghost use Rattle.std.specs.Prelude.{◌≡◌, ℕ, List, Contains, Some, map, slice_get};
 ghost use Rattle.std.specs.List.{IsDistinct};
 ghost use Rattle.bec_disk.specs.Disk.{EveryImage};
 ghost use Rattle.key_index.specs.Used.{IsUsed};
+ghost use Rattle.lms_tree.specs.SecretKey.{public_key};
 ghost use Rattle.lms_tree.specs.Signature.{leaf_number};
+ghost use Rattle.lms_tree.specs.declared.seed.KeyTypes.{KeyTypes};
 ghost use Rattle.schema.specs.Data.{Meaning, SchemaData};
 ghost use Rattle.session_rules.specs.Laws.{NoCollision};
 ghost use Rattle.table_model.specs.Visible.{rules_with};
@@ -15,7 +17,8 @@ ghost use Rattle.update_model.specs.declared.update_id.UpdateId.{UpdateId};
 ghost use Rattle.update_model.specs.Graph.{AreHeads};
 ghost use Rattle.world_rules.specs.declared.event.Event.{Event as EventData};
 ghost use Rattle.world_rules.specs.declared.event.Stepped.{Stepped as SteppedData};
-ghost use Rattle.world_rules.specs.Happens.{Happens, IsReached};
+ghost use Rattle.world_rules.specs.Drawn.{HaveDrawnKeys};
+ghost use Rattle.world_rules.specs.Happens.{Happens, IsNew, IsReached, Reaches};
 ghost use Rattle.world_rules.specs.Laws.{HaveOneSet, HoldsInvariants, IsKeyOf, IsOfMake, IsSoundTalk, KeepsList};
 ghost use Rattle.world_rules.specs.Laws.{LeavesThrough, NoForgedIndex, NoForgery, same_index};
 ghost use Rattle.world_rules.specs.Meetings.{TwoEnds};
@@ -64,7 +67,7 @@ pub fn invariants_always_hold()
 /// Unless a signature was forged: each update that a correct replica holds and that a correct replica's key signed has
 /// a message that a Make of a replica with this key signed. It names every head which that replica had then; and where
 /// no two updates share an id, all that it held then are ancestors of the update. Where no other replica has the key,
-/// it was a Make of that very replica.
+/// as where the world's number drew all keys, it was a Make of that very replica.
 pub fn members_were_made()
     ensures made { (ask : Meaning) (schema : SchemaData) (w : WorldData) (q r : ℕ) (site : SiteData) (update : List ℕ)
         → IsReached ask schema w → NoForgery w
@@ -74,6 +77,10 @@ pub fn members_were_made()
         (update : List ℕ) → IsReached ask schema w → NoForgery w
         → site_at w q ≡ Some site → Contains (held_by site) update → IsKeyOf w r update
         → ((other : ℕ) → IsKeyOf w other update → other ≡ r) → IsOfMake w r (held_by site) update }
+    ensures by_own_key { (ask : Meaning) (schema : SchemaData) (w : WorldData) (types : KeyTypes) (number q r : ℕ)
+        (site : SiteData) (update : List ℕ) → IsReached ask schema w → HaveDrawnKeys types number w.sites → NoForgery w
+        → site_at w q ≡ Some site → Contains (held_by site) update → IsKeyOf w r update
+        → IsOfMake w r (held_by site) update }
 {
     one_schema();
     declared_is_sound();
@@ -92,8 +99,26 @@ pub fn sessions_are_sound()
     declared_is_sound();
 }
 
-/// With each index of each key at most one message is signed, and from then on whatever a crash leaves has the index
-/// used.
+/// Whatever happens to a world whose number drew its replicas' keys, each replica has the key that was drawn for its
+/// place, and no two have one public key, nor one SEED.
+pub fn each_replica_has_its_own_key()
+    ensures kept { (ask : Meaning) (schema : SchemaData) (first w : WorldData) (types : KeyTypes) (number : ℕ)
+        → IsNew ask schema first → Reaches ask first w → HaveDrawnKeys types number first.sites
+        → HaveDrawnKeys types number w.sites }
+    ensures own { (ask : Meaning) (schema : SchemaData) (w : WorldData) (types : KeyTypes) (number r q : ℕ)
+        (a b : SiteData) → IsReached ask schema w → HaveDrawnKeys types number w.sites
+        → site_at w r ≡ Some a → site_at w q ≡ Some b → public_key a.key.secret ≡ public_key b.key.secret → r ≡ q }
+    ensures seed { (ask : Meaning) (schema : SchemaData) (w : WorldData) (types : KeyTypes) (number r q : ℕ)
+        (a b : SiteData) → IsReached ask schema w → HaveDrawnKeys types number w.sites
+        → site_at w r ≡ Some a → site_at w q ≡ Some b → a.key.secret.start ≡ b.key.secret.start → r ≡ q }
+{
+    one_schema();
+    declared_is_sound();
+}
+
+/// With each index of each replica's key at most one message is signed, and from then on whatever a crash leaves has
+/// the index used. Where the world's number drew all keys, with each index of each public key at most one message is
+/// signed, by whichever replica.
 pub fn one_index_one_message()
     ensures once { (ask : Meaning) (schema : SchemaData) (w : WorldData) → IsReached ask schema w
         → IsDistinct same_index w.signed }
@@ -106,6 +131,10 @@ pub fn one_index_one_message()
         → site_at w s.replica ≡ Some site
         → (new : SiteData) × (site_at next s.replica ≡ Some new) × LeavesThrough site.key.parts.used new.key.parts.used
         (IsUsed s.index) }
+    ensures by_key { (ask : Meaning) (schema : SchemaData) (w : WorldData) (types : KeyTypes) (number i j : ℕ)
+        (a b : SignedData) → IsReached ask schema w → HaveDrawnKeys types number w.sites
+        → slice_get w.signed i ≡ Some a → slice_get w.signed j ≡ Some b → a.body.author ≡ b.body.author
+        → a.index ≡ b.index → i ≡ j }
 {
     one_schema();
     declared_is_sound();

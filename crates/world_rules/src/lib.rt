@@ -20,7 +20,8 @@ mod site;
 pub use event::{Event, Stepped};
 pub use fault::SiteFault;
 pub use laws::{
-    correct_keys_are_never_doubled, equal_heads_mean_equal_tables, invariants_always_hold,
-    lists_only_grow, members_were_made, one_index_one_message, sessions_are_sound,
+    correct_keys_are_never_doubled, each_replica_has_its_own_key, equal_heads_mean_equal_tables,
+    invariants_always_hold, lists_only_grow, members_were_made, one_index_one_message,
+    sessions_are_sound,
 };
 pub use site::Site;

@@ -24,7 +24,7 @@ impl Site {
     ///
     /// The error is want of memory: its schema and its key were synced when it was created, so each image has them.
     pub fn restart(self, choice: u64) -> Result<Site, AllocError>
-        ensures { IfOk result (λ new. Restarts is_luhn self new) }
+        ensures { IfOk result (λ new. Restarts is_luhn choice self new) }
     {
         let Site {
             alloc,

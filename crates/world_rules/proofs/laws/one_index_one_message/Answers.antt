@@ -1,4 +1,5 @@
 use Rattle.session_rules.proofs.Words.{each_member}
+use Rattle.world_rules.proofs.Owning.{once_by_key}
 use Rattle.world_rules.proofs.Signing.{IsSignature}
 use Rattle.world_rules.proofs.Standing.{stands_always, used_through}
 use Rattle.world_rules.proofs.Schemas.{SchemaLaws}
@@ -19,3 +20,8 @@ pub returns-clause-any_moment : goal.returns-clause-any_moment
 returns-clause-any_moment c ask schema w next event answer s site reached happens signed there =
     let laws : SchemaLaws = record { one = c.one_schema.ensures; sound = c.declared_is_sound.ensures } in
     used_through laws ask schema w next event answer s site reached happens signed there
+
+pub returns-clause-by_key : goal.returns-clause-by_key
+returns-clause-by_key c ask schema w types number i j a b reached drawn at_a at_b author index =
+    let laws : SchemaLaws = record { one = c.one_schema.ensures; sound = c.declared_is_sound.ensures } in
+    once_by_key laws ask schema w types number i j a b reached drawn at_a at_b author index

@@ -18,6 +18,8 @@ returns-clause-makes c =
       any_moment = m.ensures.any_moment;
       used = m.ensures.used;
       on_disk = c.len.ensures.on_disk;
+      key_failed = m.ensures.key_failed;
+      log_failed = m.ensures.log_failed;
     })
 
 pub returns-clause-signs : goal.returns-clause-signs

@@ -20,7 +20,7 @@ returns c =
     let left = c.in_ok-left.left in
     let none = c.in_ok-none.none.items in
     let many : c.len.result ≡ length c.args.self.remembered = c.len.ensures ∙ c.self.inside.remembered.ok.0 ∙ ap (λ (s : SiteData). length s.remembered) c.self.view_is in
-    if_ok_map c.open.result (OpensSite is_luhn (fresh left.schema.start) (fresh left.updates.start) (fresh_parts left.key.start left.used.start) none) (Restarts is_luhn c.args.self)
+    if_ok_map c.open.result (OpensSite is_luhn (fresh left.schema.start) (fresh left.updates.start) (fresh_parts left.key.start left.used.start) none) (Restarts is_luhn c.args.choice c.args.self)
     (λ new opens. restarts c.args.self new c.args.choice c.self.inside.schema updates key used left.schema left.updates left.key left.used none
     (ap (λ (s : SiteData). s.schema) c.self.view_is)
     (c.into_parts-updates.ensures.state ∙ ap (λ (s : SiteData). s.store.log.disk) c.self.view_is)
