@@ -64,7 +64,7 @@ with open(os.environ["RUNS"], "a") as runs:
     runs.write(f"{sys.argv[1]} {os.getpid()}\n")
 sys.exit(ci() if sys.argv[1] == "ci" else run() if sys.argv[1] == "run" else 0)
 '''
-CRATES = "low: thiserror\nbec_check: low\nhigh: low\nbec: high low\nbec_look: high\ntests_of_low: low\n"
+CRATES = "low: thiserror\nbec_check: low\nhigh: low\nbec: high low\ntests_of_low: low\n"
 
 
 class Tree:
@@ -87,7 +87,7 @@ class Tree:
             self.write(f"crates/{name}/stdout", name)
         self.env = {**os.environ, "PATH": os.path.join(folder, "bin") + ":/usr/bin:/bin", "XDG_CACHE_HOME": self.cache, "RUNS": self.runs_file,
                     "SECONDS_OF_SLOW": "3"}
-        for word in ("BEC_PROGRAM", "BEC_DRAW_PROGRAM", "SLOW"):
+        for word in ("BEC_PROGRAM", "SLOW"):
             self.env.pop(word, None)
 
     def write(self, path, text, age=0.0):
@@ -158,8 +158,8 @@ def is_rt(process):
 def built(tree, note):
     """The first build makes all programs once, and what it made counts as long as the contents are the same."""
     status, out, said = tree.call("heads")
-    note(f"a first build: {status} {out} {said}", (status, out) == (0, "") and "proving and building bec, bec_look, bec_check by" in said and "5 of 5 crates" in said)
-    note("the programs", all(os.path.exists(tree.path(name)) for name in ("bec", "bec_look", "bec_check")))
+    note(f"a first build: {status} {out} {said}", (status, out) == (0, "") and "proving and building bec, bec_check by" in said and "4 of 4 crates" in said)
+    note("the programs", all(os.path.exists(tree.path(name)) for name in ("bec", "bec_check")))
     note("a folder is left", tree.is_quiet())
     note("a second call", tree.call("heads") == (0, "", "") and tree.call("check") == (0, "confluent\n", "") and tree.runs() == 1)
     tree.write("crates/low/src/lib.rt", "one low", age=-10 ** 6)
@@ -174,7 +174,7 @@ def built(tree, note):
     os.remove(os.path.join(tree.top, "crates", "high", "src", "lib.rt"))
     tree.write("crates/high/src/new.rt", "new")
     note("a file of another name", tree.call("heads")[0] == 0 and tree.runs() == 4)
-    shutil.copy(tree.path("bec_look"), tree.path("bec"))
+    shutil.copy(tree.path("bec_check"), tree.path("bec"))
     note("another program in its place", tree.call("heads")[0] == 0 and tree.runs() == 5)
 
 
@@ -196,7 +196,7 @@ def answered(tree, note):
     """The small program answers `check` before the rest is built, and the build goes on; another command waits for it, and none is begun beside it."""
     tree.write("crates/low/src/lib.rt", "five")
     runs = tree.runs()
-    status, out, said = tree.call("check", slow="high bec bec_look")
+    status, out, said = tree.call("check", slow="high bec")
     note(f"a check before the rest: {status} {out} {said}", (status, out) == (0, "confluent\n") and "bec_check answers" in said and "in the background" in said)
     status, out, said = tree.call("check")
     note(f"a second check: {status} {out} {said}", (status, out) == (0, "confluent\n") and "in the background" in said)

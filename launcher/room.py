@@ -18,7 +18,7 @@ import sys
 import time
 
 CHECKER = "bec_check"
-PROGRAMS = ("bec", "bec_look", CHECKER)
+PROGRAMS = ("bec", CHECKER)
 # How a build ends: well, with something that could not be built, by a signal, or because nobody waited or the sources changed.
 DONE, FAILED, STOPPED, LEFT = ENDS = "= done", "= failed", "= stopped", "= left"
 READY = "= ready"
