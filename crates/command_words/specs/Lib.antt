@@ -1,6 +1,7 @@
 pub mod AuditCommands
 pub mod AuditRequests
 pub mod Commands
+pub mod LookRequests
 pub mod NetCommands
 pub mod NetRequests
 pub mod Requests

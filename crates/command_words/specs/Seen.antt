@@ -1,6 +1,7 @@
 -- What a contract sees of a request.
 use Rattle.std.specs.Prelude.{option_map}
 use Rattle.command_words.specs.AuditRequests.{AuditText, audit, confirm}
+use Rattle.command_words.specs.LookRequests.{ListingText, LookText, NamedText, QuestionText, Both, Csv, KeyOf, Log, One, Page, Picture, Records, Schema, Show, Status, Updates, Who}
 use Rattle.command_words.specs.Requests.{RequestText, heads, check, dump, init, keygen, apply, join, export, query, merge, notes}
 use Rattle.command_words.specs.NetRequests.{NetText, sync, serve}
 use Rattle.command_words.specs.SealRequests.{SealText, hsskey, seal, unseal}
@@ -8,6 +9,13 @@ use Rattle.command_words.specs.WatchRequests.{WatchText, watch}
 use Rattle.command_words.specs.WorldRequests.{WorldText, demo, world}
 use Rattle.command_words.specs.declared.audit_request.AuditRequest.{AuditRequest}
 use Rattle.command_words.specs.declared.audit_request.AuditRequest.TheVariants.{Audit, Confirm}
+use Rattle.command_words.specs.declared.look_request.Listing.{Listing}
+use Rattle.command_words.specs.declared.look_request.Listing.TheVariants as listing
+use Rattle.command_words.specs.declared.look_request.LookRequest.{LookRequest}
+use Rattle.command_words.specs.declared.look_request.LookRequest.TheVariants as look
+use Rattle.command_words.specs.declared.look_request.Question.{Question}
+use Rattle.command_words.specs.declared.look_request.Question.TheVariants as question
+use Rattle.command_words.specs.declared.look_requests.Named.{Named}
 use Rattle.command_words.specs.declared.request.Request.{Request}
 use Rattle.command_words.specs.declared.request.Request.TheVariants.{Heads, Check, Dump, Init, Keygen, Apply, Join, Export, Query, Merge, Notes}
 use Rattle.command_words.specs.declared.net_request.NetRequest.{NetRequest}
@@ -51,7 +59,33 @@ abbrev pub audit_seen : AuditRequest → AuditText
 audit_seen (Audit directory) = audit directory.now
 audit_seen Confirm = confirm
 
--- and of one about worlds
+-- of one about worlds
 abbrev pub world_seen : WorldRequest → WorldText
 world_seen (World audited) = world audited
 world_seen (Demo number count) = demo number count
+
+-- of what one asks of updates that looks at a store
+abbrev pub listing_seen : Listing → ListingText
+listing_seen (listing.Picture dot) = Picture dot
+listing_seen (listing.Log rows full json) = Log rows full json
+listing_seen (listing.Show id full json) = Show id.now full json
+listing_seen (listing.Who row full json) = Who row.now full json
+
+-- of what it asks of a store
+abbrev pub question_seen : Question → QuestionText
+question_seen (question.Updates updates) = Updates (listing_seen updates)
+question_seen question.Page = Page
+question_seen question.Status = Status
+question_seen question.Schema = Schema
+question_seen question.Records = Records
+question_seen (question.Csv text) = Csv text.now
+
+-- and of one that looks at a store
+abbrev pub look_seen : LookRequest → LookText
+look_seen (look.One directory asked) = One (option_map (λ d. d.now) directory) (question_seen asked)
+look_seen (look.Both first second full json) = Both (option_map (λ d. d.now) first) (option_map (λ d. d.now) second) full json
+look_seen (look.Key directory) = KeyOf directory.now
+
+-- what the words of `show`, `who` and `diff` give
+abbrev pub named_seen : Named → NamedText
+named_seen named = record { directory = named.directory.now; name = named.name.now; full = named.full; json = named.json }

@@ -1,6 +1,6 @@
 //! Laws of the definitions. Each function does nothing: its contract is a theorem for callers to cite.
 
-ghost use Rattle.std.specs.Prelude.{◌≡◌, ◌↔◌, List, Some};
+ghost use Rattle.std.specs.Prelude.{◌≡◌, ◌↔◌, List, None, Some};
 ghost use Rattle.clap.specs.Words.{Text};
 ghost use Rattle.command_words.specs.Requests.{RequestText, Asks};
 ghost use Rattle.command_words.specs.Commands.{request_of};
@@ -14,6 +14,7 @@ ghost use Rattle.command_words.specs.AuditRequests.{AsksAudit, AuditText};
 ghost use Rattle.command_words.specs.AuditCommands.{audit_request_of};
 ghost use Rattle.command_words.specs.WorldRequests.{AsksWorld, WorldText};
 ghost use Rattle.command_words.specs.WorldCommands.{world_request_of};
+ghost use Rattle.command_words.specs.LookRequests.{look_request_of};
 
 /// The request that is read from words is the one that the rules tell.
 pub fn requests_are_by_rule()
@@ -133,4 +134,19 @@ pub fn nothing_beside_worlds()
         → AsksWorld words other → ⊥ }
     ensures audited { (words : List Text) (request : AuditText) (other : WorldText) → AsksAudit words request
         → AsksWorld words other → ⊥ }
+{}
+
+/// Words that ask for something else ask for nothing that looks at a store.
+pub fn nothing_beside_looks()
+    ensures alone { (words : List Text) (request : RequestText) → Asks words request → look_request_of words ≡ None }
+    ensures over_net { (words : List Text) (request : NetText) → AsksNet words request
+        → look_request_of words ≡ None }
+    ensures sealed { (words : List Text) (request : SealText) → AsksSeal words request
+        → look_request_of words ≡ None }
+    ensures watched { (words : List Text) (request : WatchText) → AsksWatch words request
+        → look_request_of words ≡ None }
+    ensures audited { (words : List Text) (request : AuditText) → AsksAudit words request
+        → look_request_of words ≡ None }
+    ensures of_worlds { (words : List Text) (request : WorldText) → AsksWorld words request
+        → look_request_of words ≡ None }
 {}

@@ -3,10 +3,10 @@
 //! [`parse_request`] reads all words, of which the first names the command, and answers the [`Request`] with its
 //! arguments, or that the words are no command. [`parse_net_request`] does so for the two commands that need a net, and
 //! answers the [`NetRequest`]; [`parse_seal_request`] for those about seals, [`parse_watch_request`] for the one that
-//! watches a query, [`parse_audit_request`] for those about keys that signed twice, and [`parse_world_request`] for
-//! those about worlds. No words ask for things of two of these kinds. Arguments are read by one simple command of
-//! `clap`: `--x V` and `--x=V` are the same, options may stand among the positions, and `--` ends them. Each option
-//! stands once at most.
+//! watches a query, [`parse_audit_request`] for those about keys that signed twice, [`parse_world_request`] for those
+//! about worlds, and [`parse_look_request`] for those that look at a store and change nothing. No words ask for things
+//! of two of these kinds. Arguments are read by one simple command of `clap`: `--x V` and `--x=V` are the same, options
+//! may stand among the positions, and `--` ends them. Each option stands once at most.
 //!
 //! ```text
 //! heads [DIR]
@@ -35,10 +35,23 @@
 //!
 //! world [--audit]
 //! demo NUMBER 4..4000
+//!
+//! draw [DIR] [--dot]
+//! log [DIR] [--rows] [--full] [--json]
+//! show DIR ID [--full] [--json]
+//! who DIR ROW [--full] [--json]
+//! diff DIR OTHER [--full] [--json]
+//! page DIR
+//! status DIR
+//! schema DIR
+//! records DIR
+//! csv DIR TEXT
+//! key DIR
 //! ```
 //!
 //! Which words are which request is told by rules (`Asks` in specs/Requests, `AsksNet` in specs/NetRequests, and so
-//! on). It opens nothing: whether a directory is there, or anyone at an address, is not judged here.
+//! on), and for those that look at a store by a function (`look_request_of` in specs/LookRequests). It opens nothing:
+//! whether a directory is there, or anyone at an address, is not judged here.
 #![tactic(auto)]
 
 mod argument;
@@ -46,6 +59,8 @@ mod audit_request;
 mod audit_requests;
 mod given;
 mod laws;
+mod look_request;
+mod look_requests;
 mod net_request;
 mod net_requests;
 mod reading;
@@ -62,11 +77,13 @@ pub use audit_request::AuditRequest;
 pub use audit_requests::parse_audit_request;
 pub use laws::{
     audit_requests_are_by_rule, net_requests_are_by_rule, no_other_request, nothing_beside_audits,
-    nothing_beside_seals, nothing_beside_watching, nothing_beside_worlds, one_audit_request,
-    one_net_request, one_request, one_seal_request, one_watch_request, one_world_request,
-    requests_are_by_rule, seal_requests_are_by_rule, watch_requests_are_by_rule,
+    nothing_beside_looks, nothing_beside_seals, nothing_beside_watching, nothing_beside_worlds,
+    one_audit_request, one_net_request, one_request, one_seal_request, one_watch_request,
+    one_world_request, requests_are_by_rule, seal_requests_are_by_rule, watch_requests_are_by_rule,
     world_requests_are_by_rule,
 };
+pub use look_request::{Listing, LookRequest, Question};
+pub use look_requests::parse_look_request;
 pub use net_request::NetRequest;
 pub use net_requests::parse_net_request;
 pub use request::Request;

@@ -1,14 +1,15 @@
 -- The words of a command line, and what is said of a run of the program. `-` is the byte 45.
 use Rattle.std.specs.Prelude.{ℕ, ◌-◌, ◌≤◌, ◌⊎◌, Bool, true, false, not, ◌&&◌, ◌||◌, ◌==◌, nat_eq, List, [], ◌∷◌, ◌++◌, drop, length, slice_get, take, unwrap_or, codes, bytes_eq, if◌then◌else◌}
 use Rattle.std.specs.Io.KnownBytes.{Appends}
-use Rattle.std.specs.List.{starts_with}
+use Rattle.std.specs.List.{list_all, starts_with}
 use Rattle.std.specs.declared.option.Option.{Option}
 use Rattle.bec_bytes.specs.Causes.{Rose}
-use Rattle.explanations.specs.declared.runs.TheConstants.{CR_LF, OF_SCHEMAS, OF_STORES, WITH_VALUES}
+use Rattle.explanations.specs.declared.runs.TheConstants.{CR_LF, OF_QUERIES, OF_SCHEMAS, OF_STORES, WITH_VALUES}
 use Rattle.explanations.specs.Explained.{Setting, explained}
 use Rattle.explanations.specs.Parts.{parts_of, stands_among}
 use Rattle.explanations.specs.Texts.{some_cr}
 use Rattle.text_words.specs.Lines.{lines_of}
+use Rattle.text_words.specs.Names.{is_name_byte}
 
 -- a word that is an option: `-` and more
 abbrev pub is_an_option : List ℕ → Bool
@@ -58,22 +59,28 @@ told_from told setting (line ∷ lines) =
 unfoldable pub cr_lf_note : List ℕ
 cr_lf_note = CR_LF.now
 
--- the commands that read a schema alone, and those that read a store behind its length
+-- the commands that read a schema alone, those that read a store behind its length, and those whose second word is a query, or a table
 unfoldable pub of_schemas : List ℕ
 of_schemas = OF_SCHEMAS.now
 
 unfoldable pub of_stores : List ℕ
 of_stores = OF_STORES.now
 
+unfoldable pub of_queries : List ℕ
+of_queries = OF_QUERIES.now
+
 -- what is said of the lines that a command read
 abbrev pub note_of : List ℕ → List ℕ → List ℕ
 note_of command read = if stands_among command of_schemas && some_cr read then cr_lf_note else []
 
--- the text that a command read or asked: a word, as a line, or what was read, without the length before a store
+-- what the query that a word asks has in front of it: to `csv`, a word of nothing but the bytes of names names a table, all of which is asked for
+abbrev pub query_front : List ℕ → List ℕ → List ℕ
+query_front command word = if bytes_eq command (codes "csv") && list_all is_name_byte word then codes "SELECT * FROM " else []
+
+-- the text that a command read or asked: a word as the query that it asks, as a line, or what was read, without the length before a store
 abbrev pub text_of : List (List ℕ) → List ℕ → List ℕ → List ℕ
 text_of words command read =
-    if bytes_eq command (codes "query") || bytes_eq command (codes "watch") then word_placed words 2 ++ 10 ∷ []
-    else if bytes_eq command (codes "csv") then word_placed words 1 ++ 10 ∷ []
+    if stands_among command of_queries then query_front command (word_placed words 2) ++ (word_placed words 2 ++ 10 ∷ [])
     else if stands_among command of_stores then drop 4 read
     else read
 

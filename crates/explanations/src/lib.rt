@@ -26,6 +26,7 @@ mod marks;
 mod matching;
 mod numbers;
 mod parts;
+mod queries;
 mod recording;
 mod refusals;
 mod rows;

@@ -5,14 +5,15 @@ ghost use Rattle.std.specs.Prelude.{IfOk, OnErr, OnOk, option_copied};
 ghost use Rattle.explanations.specs.Explained.{explained, setting_of};
 ghost use Rattle.explanations.specs.Parts.{parts_of, stands_among};
 ghost use Rattle.explanations.specs.Run.{cr_lf_note, directory_among, is_an_option, is_done_line, is_told, limit_of};
-ghost use Rattle.explanations.specs.Run.{note_of, of_schemas, of_stores, said_of_run, setting_by, text_of, told_from};
-ghost use Rattle.explanations.specs.Run.{Says, told_of, with_values, word_placed};
+ghost use Rattle.explanations.specs.Run.{note_of, of_queries, of_schemas, of_stores, said_of_run, setting_by, text_of};
+ghost use Rattle.explanations.specs.Run.{Says, told_from, told_of, with_values, word_placed};
 ghost use Rattle.text_words.specs.Lines.{lines_of};
 
 use crate::asked::Asked;
 use crate::explaining::explain;
 use crate::fronts::behind;
 use crate::parts::first_part;
+use crate::queries::query_front;
 use crate::text_lines::has_cr;
 use crate::words::is_among;
 use bec_bytes::{Sink, write_all_of};
@@ -201,11 +202,9 @@ fn push_text(out: &mut Vec<u8>, command: &str, run: &Run) -> Result<(), AllocErr
         run.now.read.now) }
 {
     let command = command.as_bytes();
-    if command == b"query".as_slice() || command == b"watch".as_slice() {
-        return push_asked(out, word_at(run.words, 2));
-    }
-    if command == b"csv".as_slice() {
-        return push_asked(out, word_at(run.words, 1));
+    if is_of_queries(command) {
+        let asked = word_at(run.words, 2);
+        return push_asked(out, query_front(command, asked.as_bytes()), asked);
     }
     if is_of_stores(command) {
         return out.extend_from_slice(behind_length(run.read));
@@ -234,10 +233,18 @@ fn is_of_stores(command: &[u8]) -> bool
     is_among(command, OF_STORES)
 }
 
-/// Adds a text that was asked, as a line.
-fn push_asked(out: &mut Vec<u8>, text: &str) -> Result<(), AllocError>
-    ensures { OnOk result (out.new.items ≡ out.old.items ++ (text.now ++ 10 ∷ [])) }
+/// Whether the second word of a command is a query, or a table.
+fn is_of_queries(command: &[u8]) -> bool
+    ensures { result ≡ stands_among command.now of_queries }
 {
+    is_among(command, OF_QUERIES)
+}
+
+/// Adds a text that was asked, behind what it has in front, as a line.
+fn push_asked(out: &mut Vec<u8>, front: &[u8], text: &str) -> Result<(), AllocError>
+    ensures { OnOk result (out.new.items ≡ out.old.items ++ (front.now ++ (text.now ++ 10 ∷ []))) }
+{
+    out.extend_from_slice(front)?;
     out.extend_from_slice(text.as_bytes())?;
     out.extend_from_slice(b"\n")
 }
@@ -303,3 +310,6 @@ const OF_SCHEMAS: &[u8] = b"init check";
 
 /// The commands that read a store behind its length.
 const OF_STORES: &[u8] = b"dump draw log show who diff page status schema";
+
+/// The commands whose second word is a query, or a table.
+const OF_QUERIES: &[u8] = b"query watch csv";

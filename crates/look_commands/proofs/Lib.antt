@@ -1,0 +1,4 @@
+pub mod Answering
+pub mod KeyShown
+pub mod Refusals
+pub mod Sides
