@@ -1,0 +1,7 @@
+pub mod Batches
+pub mod Copying
+pub mod Looking
+pub mod NewStores
+pub mod Opened
+pub mod Shelving
+pub mod Telling
