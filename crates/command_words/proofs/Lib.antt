@@ -1,6 +1,7 @@
 mod AuditRules
 mod Building
 mod Families
+mod Importing
 mod Looking
 mod NetRules
 mod Refusing

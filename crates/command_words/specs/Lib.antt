@@ -1,6 +1,7 @@
 pub mod AuditCommands
 pub mod AuditRequests
 pub mod Commands
+pub mod ImportRequests
 pub mod LookRequests
 pub mod NetCommands
 pub mod NetRequests

@@ -1,6 +1,7 @@
 -- What a contract sees of a request.
 use Rattle.std.specs.Prelude.{option_map}
 use Rattle.command_words.specs.AuditRequests.{AuditText, audit, confirm}
+use Rattle.command_words.specs.ImportRequests.{ImportText, CloneBundle, CloneStore, Import}
 use Rattle.command_words.specs.LookRequests.{ListingText, LookText, NamedText, QuestionText, Both, Csv, KeyOf, Log, One, Page, Picture, Records, Schema, Show, Status, Updates, Who}
 use Rattle.command_words.specs.Requests.{RequestText, heads, check, dump, init, keygen, apply, join, export, query, merge, notes}
 use Rattle.command_words.specs.NetRequests.{NetText, sync, serve}
@@ -9,6 +10,8 @@ use Rattle.command_words.specs.WatchRequests.{WatchText, watch}
 use Rattle.command_words.specs.WorldRequests.{WorldText, demo, world}
 use Rattle.command_words.specs.declared.audit_request.AuditRequest.{AuditRequest}
 use Rattle.command_words.specs.declared.audit_request.AuditRequest.TheVariants.{Audit, Confirm}
+use Rattle.command_words.specs.declared.import_request.ImportRequest.{ImportRequest}
+use Rattle.command_words.specs.declared.import_request.ImportRequest.TheVariants as bringing
 use Rattle.command_words.specs.declared.look_request.Listing.{Listing}
 use Rattle.command_words.specs.declared.look_request.Listing.TheVariants as listing
 use Rattle.command_words.specs.declared.look_request.LookRequest.{LookRequest}
@@ -85,6 +88,12 @@ abbrev pub look_seen : LookRequest → LookText
 look_seen (look.One directory asked) = One (option_map (λ d. d.now) directory) (question_seen asked)
 look_seen (look.Both first second full json) = Both (option_map (λ d. d.now) first) (option_map (λ d. d.now) second) full json
 look_seen (look.Key directory) = KeyOf directory.now
+
+-- and of one that brings updates into a directory
+abbrev pub import_seen : ImportRequest → ImportText
+import_seen (bringing.Import directory) = Import directory.now
+import_seen (bringing.CloneBundle directory) = CloneBundle directory.now
+import_seen (bringing.CloneStore from directory) = CloneStore from.now directory.now
 
 -- what the words of `show`, `who` and `diff` give
 abbrev pub named_seen : Named → NamedText

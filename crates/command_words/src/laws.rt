@@ -14,7 +14,8 @@ ghost use Rattle.command_words.specs.AuditRequests.{AsksAudit, AuditText};
 ghost use Rattle.command_words.specs.AuditCommands.{audit_request_of};
 ghost use Rattle.command_words.specs.WorldRequests.{AsksWorld, WorldText};
 ghost use Rattle.command_words.specs.WorldCommands.{world_request_of};
-ghost use Rattle.command_words.specs.LookRequests.{look_request_of};
+ghost use Rattle.command_words.specs.ImportRequests.{import_request_of};
+ghost use Rattle.command_words.specs.LookRequests.{LookText, look_request_of};
 
 /// The request that is read from words is the one that the rules tell.
 pub fn requests_are_by_rule()
@@ -149,4 +150,21 @@ pub fn nothing_beside_looks()
         → look_request_of words ≡ None }
     ensures of_worlds { (words : List Text) (request : WorldText) → AsksWorld words request
         → look_request_of words ≡ None }
+{}
+
+/// Words that ask for something else ask for nothing that brings updates into a directory.
+pub fn nothing_beside_imports()
+    ensures alone { (words : List Text) (request : RequestText) → Asks words request → import_request_of words ≡ None }
+    ensures over_net { (words : List Text) (request : NetText) → AsksNet words request
+        → import_request_of words ≡ None }
+    ensures sealed { (words : List Text) (request : SealText) → AsksSeal words request
+        → import_request_of words ≡ None }
+    ensures watched { (words : List Text) (request : WatchText) → AsksWatch words request
+        → import_request_of words ≡ None }
+    ensures audited { (words : List Text) (request : AuditText) → AsksAudit words request
+        → import_request_of words ≡ None }
+    ensures of_worlds { (words : List Text) (request : WorldText) → AsksWorld words request
+        → import_request_of words ≡ None }
+    ensures looking { (words : List Text) (request : LookText) → look_request_of words ≡ Some request
+        → import_request_of words ≡ None }
 {}

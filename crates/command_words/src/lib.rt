@@ -4,8 +4,8 @@
 //! arguments, or that the words are no command. [`parse_net_request`] does so for the two commands that need a net, and
 //! answers the [`NetRequest`]; [`parse_seal_request`] for those about seals, [`parse_watch_request`] for the one that
 //! watches a query, [`parse_audit_request`] for those about keys that signed twice, [`parse_world_request`] for those
-//! about worlds, and [`parse_look_request`] for those that look at a store and change nothing. No words ask for things
-//! of two of these kinds. Arguments are read by one simple command of `clap`: `--x V` and `--x=V` are the same, options
+//! about worlds, [`parse_look_request`] for those that look at a store and change nothing, and [`parse_import_request`]
+//! for those that bring updates into a directory. No words ask for things of two of these kinds. Arguments are read by one simple command of `clap`: `--x V` and `--x=V` are the same, options
 //! may stand among the positions, and `--` ends them. Each option stands once at most.
 //!
 //! ```text
@@ -47,10 +47,14 @@
 //! records DIR
 //! csv DIR TEXT
 //! key DIR
+//!
+//! import DIR
+//! clone FROM DIR
 //! ```
 //!
 //! Which words are which request is told by rules (`Asks` in specs/Requests, `AsksNet` in specs/NetRequests, and so
-//! on), and for those that look at a store by a function (`look_request_of` in specs/LookRequests). It opens nothing:
+//! on), and for the last two kinds by a function (`look_request_of` in specs/LookRequests, `import_request_of` in
+//! specs/ImportRequests). It opens nothing:
 //! whether a directory is there, or anyone at an address, is not judged here.
 #![tactic(auto)]
 
@@ -58,6 +62,8 @@ mod argument;
 mod audit_request;
 mod audit_requests;
 mod given;
+mod import_request;
+mod import_requests;
 mod laws;
 mod look_request;
 mod look_requests;
@@ -75,9 +81,11 @@ mod world_requests;
 
 pub use audit_request::AuditRequest;
 pub use audit_requests::parse_audit_request;
+pub use import_request::ImportRequest;
+pub use import_requests::parse_import_request;
 pub use laws::{
     audit_requests_are_by_rule, net_requests_are_by_rule, no_other_request, nothing_beside_audits,
-    nothing_beside_looks, nothing_beside_seals, nothing_beside_watching, nothing_beside_worlds,
+    nothing_beside_imports, nothing_beside_looks, nothing_beside_seals, nothing_beside_watching, nothing_beside_worlds,
     one_audit_request, one_net_request, one_request, one_seal_request, one_watch_request,
     one_world_request, requests_are_by_rule, seal_requests_are_by_rule, watch_requests_are_by_rule,
     world_requests_are_by_rule,

@@ -1,5 +1,6 @@
 pub mod Batches
 pub mod Copying
+pub mod Ending
 pub mod Looking
 pub mod NewStores
 pub mod Opened

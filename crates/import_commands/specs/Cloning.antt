@@ -61,6 +61,6 @@ pub data ClonesStore (from dir : List ℕ) (stream stream_new : Stream) (before 
   lacks : (mid : ShelfState) (counted : ℕ) (refusal : Refusal) → LooksThere dir before mid old counted → IsNotThere dir before → LacksStore from mid after counted new refusal
       → stream_new ≡ stream → outcome ≡ Err refusal → ClonesStore from dir stream stream_new before after old new outcome
   put : (mid copied : ShelfState) (counted copied_counted : ℕ) (schema : SchemaData) (members : List (List ℕ)) → LooksThere dir before mid old counted → IsNotThere dir before
-      → CopiesStore from mid copied counted copied_counted schema members
+      → CopiesStore from mid copied counted copied_counted schema members → KeepsHome mid copied counted copied_counted
       → PutsIn (record { text = schema.text; updates = members }) dir stream stream_new copied after copied_counted new outcome
       → ClonesStore from dir stream stream_new before after old new outcome

@@ -47,7 +47,10 @@ pub data PutsIn (contents : ContentsData) (dir : List ℕ) (stream stream_new : 
 -- The shelf and the generator are as they were.
 pub record UsesSource {S H R : Type 0} (before after : Outside S H R) : Type 0 where
   pub shelf : after.shelf ≡ before.shelf
+  pub store : after.store ≡ before.store
+  pub shelf_faults : after.shelf_faults ≡ before.shelf_faults
   pub random : after.random ≡ before.random
+  pub stream : after.stream ≡ before.stream
 
 -- `import`. The whole bundle is read first; where it is refused, nothing else is touched. Then what it holds is put into the directory.
 pub data Imports {S H R : Type 0} (dir : List ℕ) (before after : Outside S H R) (outcome : Outcome) : Type 0 where

@@ -1,3 +1,4 @@
+pub mod Bringing
 pub mod Cloning
 pub mod Importing
 pub mod Making

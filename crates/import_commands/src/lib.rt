@@ -11,6 +11,7 @@
 //! first. Where a disk fails after that, an empty store of the database stays, into which `import` takes the rest.
 #![tactic(auto)]
 
+mod bringing;
 mod cloning;
 mod contents;
 mod importing;
@@ -19,6 +20,7 @@ mod making;
 mod putting;
 mod taking;
 
+pub use bringing::bring;
 pub use cloning::{clone_bundle, clone_store};
 pub use importing::import;
 pub use laws::{put_is_told, taken_are_both};

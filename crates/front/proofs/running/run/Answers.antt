@@ -3,47 +3,41 @@ use Rattle.std.specs.String.{string_bytes}
 use Rattle.bec_node.proofs.Asking.{appends_none}
 use Rattle.bec_node.proofs.Leaving.{beside_net}
 use Rattle.bec_node.specs.Run.{unread as nothing_read}
+use Rattle.command_words.specs.ImportRequests.{import_request_of}
 use Rattle.command_words.specs.LookRequests.{look_request_of}
-use Rattle.command_words.specs.Seen.{look_seen}
+use Rattle.command_words.specs.Seen.{import_seen, look_seen}
 use Rattle.look_commands.specs.Ending.{lacks_one}
 use Rattle.outcomes.specs.Outside.{outside}
 use Rattle.schema_verdict.specs.Written.{SinkState}
 use Rattle.schema_verdict.specs.declared.status.TheConstants.{STORE_FAULT, STREAM_FAULT}
-use Rattle.front.specs.Front.{looks, runs, unread}
-use Rattle.front.proofs.Asked.{NoLooks, known_unlooked}
+use Rattle.front.specs.Front.{brings, looks, runs, unread}
+use Rattle.front.proofs.Asked.{NothingBeside, known_unasked}
 use Rattle.front.proofs.Ending.{fault_with, look_blames, look_home}
 use Rattle.front.proofs.running.run.Goals as goal
 
 pub returns-in_default : goal.returns-in_default
 returns-in_default g c = record {
-  runs = unread (record { source = refl; shelf = refl; random = refl }) refl refl (appends_none (g.K.Sink.held c.args.out.now));
-  known = λ is. nothing_read (record { source = refl; shelf = refl; random = refl }) refl refl (appends_none (g.K.Sink.held c.args.out.now));
-  leaves = record { links = refl; store_fault = λ e. absurd (omega (arith, e)); stream_fault = λ e. absurd (omega (arith, e)) };
+  runs = unread (record { source = refl; shelf = refl; random = refl }) refl c.unread.ensures (appends_none (g.K.Sink.held c.args.out.now));
+  known = λ is. nothing_read (record { source = refl; shelf = refl; random = refl }) refl c.unread.ensures (appends_none (g.K.Sink.held c.args.out.now));
+  leaves = record { links = refl; store_fault = λ e. absurd (omega (arith, e, c.unread.ensures)); stream_fault = λ e. absurd (omega (arith, e, c.unread.ensures)) };
   home = c.requires;
 }
 
-pub returns-in-Some : goal.returns-in-Some
-returns-in-Some g c =
+pub returns-in-Some-request : goal.returns-in-Some-request
+returns-in-Some-request g c =
     let seen = outside g.S.Source.left g.S.Counted.faults g.H.Shelf.state g.H.Counted.faults g.R.Rng.stream c.args.outside.now.input c.args.outside.now.shelf c.args.outside.now.random in
     let then = outside g.S.Source.left g.S.Counted.faults g.H.Shelf.state g.H.Counted.faults g.R.Rng.stream c.looked.new.outside.input c.looked.new.outside.shelf c.looked.new.outside.random in
     let sink : SinkState = record { held = g.K.Sink.held c.args.out.now; faults = g.K.Counted.faults c.args.out.now } in
     let sink_new : SinkState = record { held = g.K.Sink.held c.looked.new.out; faults = g.K.Counted.faults c.looked.new.out } in
-    let law : NoLooks = record {
-      alone = c.nothing_beside_looks.ensures.alone;
-      over_net = c.nothing_beside_looks.ensures.over_net;
-      sealed = c.nothing_beside_looks.ensures.sealed;
-      watched = c.nothing_beside_looks.ensures.watched;
-      audited = c.nothing_beside_looks.ensures.audited;
-      of_worlds = c.nothing_beside_looks.ensures.of_worlds;
-    } in
-    let request = look_seen c.in-Some.request in
+    let law : NothingBeside look_request_of = record { alone = c.nothing_beside_looks.ensures.alone; over_net = c.nothing_beside_looks.ensures.over_net; sealed = c.nothing_beside_looks.ensures.sealed; watched = c.nothing_beside_looks.ensures.watched; audited = c.nothing_beside_looks.ensures.audited; of_worlds = c.nothing_beside_looks.ensures.of_worlds } in
+    let request = look_seen c.in-Some-request.request in
     let comes = c.looked.ensures in
-    let asked : look_request_of (map string_bytes c.args.words.now) ≡ Some request = sym (rw c.in-Some.is at c.in-Ok.ensures) in
+    let asked : look_request_of (map string_bytes c.args.words.now) ≡ Some request = sym (rw c.in-Some-request.is at c.in-Ok.ensures) in
     let blames = look_blames seen then sink sink_new comes.own request comes.outcome comes.comes comes.said in
     let lacking = lacks_one request comes.outcome in
     record {
       runs = looks request asked comes refl;
-      known = λ is. absurd (let none : Some request ≡ None = sym asked ∙ known_unlooked law c.args.words.now is in cc);
+      known = λ is. absurd (let none : Some request ≡ None = sym asked ∙ known_unasked look_request_of law c.args.words.now is in cc);
       leaves = record {
         links = refl;
         store_fault = λ e. blames.0 (fault_with lacking comes.own STORE_FAULT (λ d. omega (arith, d)) (sym comes.status_is ∙ e));
@@ -52,7 +46,32 @@ returns-in-Some g c =
       home = look_home seen then c.requires (λ same. (ap g.H.Shelf.state same, ap g.H.Counted.faults same)) request comes.outcome comes.comes;
     }
 
+pub returns-in_default-2 : goal.returns-in_default-2
+returns-in_default-2 g c = record {
+  runs = unread (record { source = refl; shelf = refl; random = refl }) refl c.unread-2.ensures (appends_none (g.K.Sink.held c.args.out.now));
+  known = λ is. nothing_read (record { source = refl; shelf = refl; random = refl }) refl c.unread-2.ensures (appends_none (g.K.Sink.held c.args.out.now));
+  leaves = record { links = refl; store_fault = λ e. absurd (omega (arith, e, c.unread-2.ensures)); stream_fault = λ e. absurd (omega (arith, e, c.unread-2.ensures)) };
+  home = c.requires;
+}
+
+pub returns-in-Some : goal.returns-in-Some
+returns-in-Some g c =
+    let law : NothingBeside import_request_of = record { alone = c.nothing_beside_imports.ensures.alone; over_net = c.nothing_beside_imports.ensures.over_net; sealed = c.nothing_beside_imports.ensures.sealed; watched = c.nothing_beside_imports.ensures.watched; audited = c.nothing_beside_imports.ensures.audited; of_worlds = c.nothing_beside_imports.ensures.of_worlds } in
+    let request = import_seen c.in-Some.request in
+    let asked : import_request_of (map string_bytes c.args.words.now) ≡ Some request = sym (rw c.in-Some.is at c.in-Ok-2.ensures) in
+    record {
+      runs = brings request asked c.brought.ensures.brings refl;
+      known = λ is. absurd (let none : Some request ≡ None = sym asked ∙ known_unasked import_request_of law c.args.words.now is in cc);
+      leaves = record { links = refl; store_fault = c.brought.ensures.blames.store; stream_fault = λ e. beside_net (c.brought.ensures.blames.stream e) };
+      home = c.brought.ensures.home;
+    }
+
 pub returns-in-None : goal.returns-in-None
 returns-in-None g c =
     let ran = c.run-status.ensures in
-    record { runs = runs (sym (rw c.in-None.is at c.in-Ok.ensures)) ran.runs; known = λ is. ran.runs; leaves = ran.leaves; home = ran.home }
+    record {
+      runs = runs (sym (rw c.in-default.is at c.in-Ok.ensures)) (sym (rw c.in-None.is at c.in-Ok-2.ensures)) ran.runs;
+      known = λ is. ran.runs;
+      leaves = ran.leaves;
+      home = ran.home;
+    }

@@ -55,7 +55,7 @@ returns g c =
     let contents = c.in_ok-contents.contents in
     let copies = c.in_ok-contents.ensures.copies in
     put (g.H.Shelf.state c.is_there.new.shelf) (g.H.Shelf.state c.store_contents.new.shelf) (g.H.Counted.faults c.is_there.new.shelf) (g.H.Counted.faults c.store_contents.new.shelf)
-    copies.0 contents.updates.items looks none copies.1
+    copies.0 contents.updates.items looks none copies.1 c.in_ok-contents.ensures.keeps
     (subst (λ (t : List ℕ). PutsIn (record { text = t; updates = contents.updates.items }) c.args.dir.now (g.R.Rng.stream c.args.random.now) (g.R.Rng.stream c.put_in.new.random)
     (g.H.Shelf.state c.store_contents.new.shelf) (g.H.Shelf.state c.put_in.new.shelf) (g.H.Counted.faults c.store_contents.new.shelf) (g.H.Counted.faults c.put_in.new.shelf) c.put_in.result)
     (sym (ap (λ (s : SchemaData). s.text) copies.2.taken.declares.1.3)) c.put_in.ensures)

@@ -10,7 +10,7 @@ put_in-requires-clause-text g c = (c.in_ok-contents.ensures.held.0, c.in_ok-cont
 pub returns-in_err-contents : goal.returns-in_err-contents
 returns-in_err-contents g c =
     let p = err_from_is_err_and c.from_residual.result c.from_residual.ensures.1 in
-    rw (p.1, p.2) (refused c.in_err-contents.field-0.0 c.in_err-contents.ensures.refused (record { shelf = refl; random = refl }) refl)
+    rw (p.1, p.2) (refused c.in_err-contents.field-0.0 c.in_err-contents.ensures.refused (record { shelf = refl; store = refl; shelf_faults = refl; random = refl; stream = refl }) refl)
 
 pub returns : goal.returns
 returns g c =
