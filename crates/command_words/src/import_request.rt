@@ -3,16 +3,9 @@
 #[derive(Clone, Copy, Drop)]
 pub enum ImportRequest<'a> {
     /// `import`: takes the bundle that is read into the store of a directory, or makes one of it.
-    Import {
-        directory: &'a str,
-    },
+    Import { directory: &'a str },
     /// `clone` of the bundle that is read: makes a store of it.
-    CloneBundle {
-        directory: &'a str,
-    },
+    CloneBundle { directory: &'a str },
     /// `clone` of a store: makes another one that holds the same.
-    CloneStore {
-        from: &'a str,
-        directory: &'a str,
-    },
+    CloneStore { from: &'a str, directory: &'a str },
 }

@@ -70,10 +70,7 @@ static CLONE: [Argument<'static>; 2] = [
 ];
 
 /// `clone FROM DIR`
-fn clone_of<'a>(
-    alloc: Global,
-    words: &'a [String],
-) -> Result<Option<ImportRequest<'a>>, AllocError>
+fn clone_of<'a>(alloc: Global, words: &'a [String]) -> Result<Option<ImportRequest<'a>>, AllocError>
     ensures { IfOk result (λ found. option_map import_seen found ≡ clone_of (map string_bytes words.entry.now)) }
 {
     match read_words(alloc, "clone", &CLONE, words)? {

@@ -85,10 +85,10 @@ pub use import_request::ImportRequest;
 pub use import_requests::parse_import_request;
 pub use laws::{
     audit_requests_are_by_rule, net_requests_are_by_rule, no_other_request, nothing_beside_audits,
-    nothing_beside_imports, nothing_beside_looks, nothing_beside_seals, nothing_beside_watching, nothing_beside_worlds,
-    one_audit_request, one_net_request, one_request, one_seal_request, one_watch_request,
-    one_world_request, requests_are_by_rule, seal_requests_are_by_rule, watch_requests_are_by_rule,
-    world_requests_are_by_rule,
+    nothing_beside_imports, nothing_beside_looks, nothing_beside_seals, nothing_beside_watching,
+    nothing_beside_worlds, one_audit_request, one_net_request, one_request, one_seal_request,
+    one_watch_request, one_world_request, requests_are_by_rule, seal_requests_are_by_rule,
+    watch_requests_are_by_rule, world_requests_are_by_rule,
 };
 pub use look_request::{Listing, LookRequest, Question};
 pub use look_requests::parse_look_request;

@@ -11,7 +11,9 @@ use crate::looked::looked;
 use bec_bytes::{Sink, Source};
 use bec_disk::Shelf;
 use bec_links::Net;
-use command_words::{nothing_beside_imports, nothing_beside_looks, parse_import_request, parse_look_request};
+use command_words::{
+    nothing_beside_imports, nothing_beside_looks, parse_import_request, parse_look_request,
+};
 use outcomes::Outside;
 use outcomes::status::OUT_OF_MEMORY;
 use rand_core::Rng;
