@@ -1,6 +1,5 @@
 -- Copying what the store of a directory holds.
-use Rattle.std.proofs.Common.{◌≡◌, ◌∙◌, ◌≤◌, arith, inl, inr, ℕ, List, refl, subst, sym, IsTrue, Bool, Ok, Err, None, Some, Option, Vec}
-use Rattle.std.specs.declared.alloc.Global.{Global}
+use Rattle.std.proofs.Common.{◌≡◌, ◌∙◌, ◌≤◌, arith, inl, inr, ℕ, List, refl, sym, IsTrue, Ok, Err, None, Some, Option}
 use Rattle.bec_bytes.specs.Causes.{Rose}
 use Rattle.bec_disk.specs.Shelf.{ShelfState}
 use Rattle.key_directory.proofs.Putting.{told}

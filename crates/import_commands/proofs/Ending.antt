@@ -1,5 +1,5 @@
 -- How a request that brings updates into a directory ends, and where every part is then.
-use Rattle.std.proofs.Common.{◌≡◌, ◌⊎◌, ◌∙◌, ◌≤◌, arith, inl, inr, ℕ, List, refl, sym, ap, subst, IsTrue, Ok, Err, Option, Vec}
+use Rattle.std.proofs.Common.{◌≡◌, ◌⊎◌, ◌≤◌, arith, inl, inr, ℕ, List, sym, ap, subst, IsTrue, Ok, Err, Option}
 use Rattle.rand_core.specs.Stream.{Stream}
 use Rattle.bec_bytes.specs.Causes.{Rose}
 use Rattle.bec_disk.specs.Shelf.{ShelfState}
@@ -12,14 +12,14 @@ use Rattle.key_directory.specs.Parts.{IsHome}
 use Rattle.node_commands.specs.Creating.{IsInitEnd}
 use Rattle.outcomes.proofs.Saying.{rose_later}
 use Rattle.outcomes.specs.Comes.{AnswersSome, IsAnyFault, IsShelfFault}
-use Rattle.outcomes.specs.Outcome.{IsFault, Outcome, from_taking}
+use Rattle.outcomes.specs.Outcome.{Outcome, from_taking}
 use Rattle.outcomes.specs.Outside.{Outside}
 use Rattle.outcomes.specs.StoreAnswers.{ReadsStore, Readings, RefusesStore, answered, bad_store, no_store, refused as store_refused}
 use Rattle.outcomes.specs.declared.refusal.Refusal.{Refusal}
 use Rattle.outcomes.specs.declared.refusal.Refusal.TheVariants as refusals
 use Rattle.import_commands.specs.Bringing.{BlamesRightly, Brings}
-use Rattle.import_commands.specs.Cloning.{ClonesBundle, ClonesStore, HasNone, LacksStore, imported, lacks, put as put_copy, there as bundle_there, unknown as bundle_unknown}
-use Rattle.import_commands.specs.Importing.{Imports, LooksThere, PutsIn, made, not_made, put, refused, taken, unknown}
+use Rattle.import_commands.specs.Cloning.{ClonesBundle, ClonesStore, HasNone, imported, lacks, put as put_copy, there as bundle_there, unknown as bundle_unknown}
+use Rattle.import_commands.specs.Importing.{Imports, PutsIn, made, not_made, put, refused, taken, unknown}
 use Rattle.import_commands.specs.Taking.{ContentsData, IsTakeEnd}
 use Rattle.import_commands.proofs.Looking.{home_looked}
 
@@ -161,7 +161,7 @@ lacking_own parts added refusal (answered store is none nil) = absurd none
 lacking_own parts added refusal (store_refused why refuses nil is) = subst (λ (o : Outcome). IsNoFault (refusal_in why o)) (sym is) (no_store_own parts why refuses)
 
 lacks_ends : (a b old new : ℕ) (refusal : Refusal) → AnswersSome (ReadsStore HasNone) (Err refusal) ⊎ IsShelfFault old new (Err refusal) → EndsAs a b old new (Err refusal)
-lacks_ends a b old new refusal (inl (parts, (added, reads))) = inl (lacking_own parts added refusal reads)
+lacks_ends a b old new refusal (inl (parts, added, reads)) = inl (lacking_own parts added refusal reads)
 lacks_ends a b old new refusal (inr fault) = inr (inr fault)
 
 other_ends : (a b : ℕ) (from dir : List ℕ) (stream stream_new : Stream) (before after : ShelfState) (old new : ℕ) (outcome : Outcome)

@@ -1,5 +1,5 @@
 -- Making a store without updates.
-use Rattle.std.proofs.Common.{◌≡◌, ◌≢◌, inl, inr, ℕ, ◌+◌, ◌≤◌, List, [], ◌∷◌, ◌++◌, arith, length, take, drop, refl, sym, ap, subst, ◌∙◌, IsTrue, Ok, Err, Some, Vec}
+use Rattle.std.proofs.Common.{◌≡◌, ℕ, ◌≤◌, List, [], ◌∷◌, ◌++◌, arith, length, refl, sym, ap, ◌∙◌, IsTrue, Ok, Err, Some, Vec}
 use Rattle.std.specs.declared.alloc.Global.{Global}
 use Rattle.std.proofs.lemmas.List.{drop_all, take_all}
 use Rattle.rand_core.specs.Stream.{Stream}
@@ -11,9 +11,7 @@ use Rattle.key_directory.proofs.Handing.{untouched}
 use Rattle.key_directory.proofs.Putting.{told}
 use Rattle.key_directory.specs.Parts.{IsHome, IsUntouched, KeepsAllBut, LetsNewGo, part_in, reading}
 use Rattle.node_commands.proofs.NewStores.{TakenOrRefused, init_lacked, init_made, init_not_made}
-use Rattle.node_commands.specs.Creating.{Inits}
 use Rattle.outcomes.specs.Outcome.{Outcome, from_creating}
-use Rattle.outcomes.specs.Outside.{Outside}
 use Rattle.outcomes.specs.StoreAnswers.{after_bytes, next_bytes}
 use Rattle.outcomes.specs.Texts.{database_text}
 use Rattle.outcomes.specs.declared.refusal.Refusal.TheVariants as refusals

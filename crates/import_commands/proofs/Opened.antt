@@ -1,5 +1,5 @@
 -- Taking updates into a store that is open.
-use Rattle.std.proofs.Common.{◌≡◌, inl, inr, ℕ, ◌≤◌, Bool, true, false, List, [], ◌++◌, arith, length, map, refl, sym, ap, subst, ◌∙◌, IsTrue, Ok, Err, Vec, All}
+use Rattle.std.proofs.Common.{◌≡◌, inl, inr, ℕ, ◌≤◌, true, false, List, [], ◌++◌, arith, length, map, refl, ap, subst, ◌∙◌, IsTrue, Ok, Err, Vec, All}
 use Rattle.std.specs.declared.alloc.Global.{Global}
 use Rattle.std.proofs.lemmas.List.{length-map}
 use Rattle.bec_bytes.specs.Framed.{stream_of}
@@ -7,7 +7,6 @@ use Rattle.bec_disk.specs.Disk.{LeavesOnly}
 use Rattle.history.specs.Histories.{HistoryData}
 use Rattle.outcomes.proofs.Working.{works_failed, works_not, works_on}
 use Rattle.outcomes.specs.declared.refusal.Refusal.TheVariants as refusals
-use Rattle.outcomes.specs.OpenStores.{opened_store}
 use Rattle.replica.specs.Replicas.{IsSameStore, ReplicaState}
 use Rattle.schema.specs.Data.{SchemaData}
 use Rattle.session_rules.specs.declared.peer_fault.PeerFault.TheVariants.{WrongDatabase}

@@ -1,5 +1,5 @@
 -- What putting updates into a directory comes to.
-use Rattle.std.proofs.Common.{◌≡◌, ◌⊎◌, inl, inr, ℕ, ◌≤◌, Bool, true, List, [], ◌∷◌, ◌++◌, arith, refl, sym, ap, subst, ◌∙◌, IsTrue, Ok, Err, Some, None, Option, Vec, false}
+use Rattle.std.proofs.Common.{◌≡◌, ◌⊎◌, inl, inr, ℕ, ◌≤◌, Bool, List, [], ◌∷◌, ◌++◌, arith, refl, sym, ap, subst, ◌∙◌, IsTrue, Ok, Err, Some, None, Option, Vec, false}
 use Rattle.std.specs.declared.alloc.Global.{Global}
 use Rattle.rand_core.specs.Stream.{Stream}
 use Rattle.bec_bytes.specs.Causes.{Rose}
@@ -8,27 +8,27 @@ use Rattle.bec_disk.specs.declared.part.Part.TheVariants.{Schema, Updates, Key, 
 use Rattle.bec_disk.specs.Disk.{LeavesSince, moments}
 use Rattle.bec_disk.specs.Gated.{IsOldOrNew, gated_of}
 use Rattle.bec_disk.specs.Shelf.{PartState, ShelfState, absent, moments_of, out, stands}
-use Rattle.bec_disk.specs.Slot.{Slot, slot}
+use Rattle.bec_disk.specs.Slot.{slot}
 use Rattle.bec_disk.proofs.Moments.{no_moment, since_then, since_weakened}
 use Rattle.confluence_test.specs.Taking.{TakesSchema}
 use Rattle.key_directory.proofs.Making.{untouched_since, untouched_then}
 use Rattle.key_directory.proofs.Places.{keeps_through}
 use Rattle.key_directory.proofs.Putting.{told}
-use Rattle.key_directory.specs.Parts.{IsHome, IsUntouched, KeepsAllBut, part_in, reading, seen_in}
+use Rattle.key_directory.specs.Parts.{IsHome, IsUntouched, part_in, reading, seen_in}
 use Rattle.node_commands.proofs.NewStores.{TakenOrRefused}
-use Rattle.node_commands.specs.Creating.{InitAnswer, IsInitEnd, IsInitFault, created, refused, there as store_there}
+use Rattle.node_commands.specs.Creating.{InitAnswer, IsInitEnd, created, refused, there as store_there}
 use Rattle.outcomes.proofs.Saying.{rose_later}
 use Rattle.outcomes.proofs.StoreOnce.{StoreLaws, read_or_refused}
 use Rattle.outcomes.specs.Comes.{IsAnyFault, IsShelfFault, is_done, readings}
 use Rattle.outcomes.specs.Outcome.{Outcome}
-use Rattle.outcomes.specs.Parts.{HasSchema, LeavesOldOrNew}
+use Rattle.outcomes.specs.Parts.{LeavesOldOrNew}
 use Rattle.outcomes.specs.StoreAnswers.{HasStore, Readings, bad_store as bad, next_bytes, no_store}
 use Rattle.outcomes.specs.Texts.{database_text}
 use Rattle.outcomes.specs.declared.refusal.Refusal.{Refusal}
 use Rattle.outcomes.specs.declared.refusal.Refusal.TheVariants as refusals
 use Rattle.row_check.specs.Checksum.{is_luhn}
 use Rattle.schema.specs.Data.{SchemaData}
-use Rattle.store_directory.specs.Stores.{IsNoStore, IsStore, KeepsList, ReadsAs, StoreData, StoreRun, with_added}
+use Rattle.store_directory.specs.Stores.{IsNoStore, IsStore, KeepsList, ReadsAs, StoreData, StoreRun}
 use Rattle.store_directory.proofs.Handing.{list_as_it_was}
 use Rattle.import_commands.specs.Importing.{IsNotThere, IsThere, LooksThere, PutsIn, made, not_made, taken, unknown}
 use Rattle.import_commands.specs.Making.{MakesEmpty}

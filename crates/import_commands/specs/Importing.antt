@@ -7,7 +7,6 @@ use Rattle.bec_disk.specs.Shelf.{ShelfState}
 use Rattle.bundles.specs.Bundles.{BundleHeld, BundleRefused}
 use Rattle.key_directory.specs.Parts.{IsUntouched, KeepsAllBut, part_in, reading}
 use Rattle.outcomes.specs.declared.refusal.Refusal.{Refusal}
-use Rattle.outcomes.specs.declared.refusal.Refusal.TheVariants.{StoreThere}
 use Rattle.outcomes.specs.Comes.{IsShelfFault}
 use Rattle.outcomes.specs.Outcome.{IsFault, Outcome}
 use Rattle.outcomes.specs.Outside.{Outside}

@@ -3,7 +3,7 @@ use Rattle.std.proofs.lemmas.Result.{err_from_is_err_and}
 use Rattle.bec_disk.specs.declared.part.Part.TheVariants.{Schema}
 use Rattle.bec_disk.specs.Slot.{slot}
 use Rattle.outcomes.specs.Outside.{outside}
-use Rattle.import_commands.specs.Cloning.{UsesShelf, imported, there, unknown}
+use Rattle.import_commands.specs.Cloning.{imported, there, unknown}
 use Rattle.import_commands.specs.Importing.{IsNotThere, IsThere, LooksThere}
 use Rattle.import_commands.proofs.Looking.{home_looked, look_failed}
 use Rattle.import_commands.proofs.cloning.clone_bundle.Goals as goal
