@@ -1,6 +1,5 @@
 -- What is told of a request that brings updates into a directory.
-use Rattle.std.proofs.Common.{◌≡◌, ◌⊎◌, inl, inr, ℕ, Err}
-use Rattle.bec_bytes.specs.Causes.{Rose}
+use Rattle.std.proofs.Common.{ℕ}
 use Rattle.bec_node.proofs.Faults.{ended_store, ended_stream, source_or_sink}
 use Rattle.import_commands.specs.Bringing.{BlamesRightly}
 use Rattle.outcomes.specs.Outcome.{Ends, Outcome}

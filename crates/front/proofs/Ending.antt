@@ -1,5 +1,5 @@
 -- What a request that looks at a store leaves, and what may be told of it.
-use Rattle.std.proofs.Common.{◌≡◌, ◌⊎◌, ◌≤◌, ◌∙◌, ◌&&◌, ◌==◌, arith, inl, inr, ℕ, Bool, true, false, cond, List, refl, sym, ap, subst, is_none, IsTrue, Ok, Err, None, Some, Option, Vec}
+use Rattle.std.proofs.Common.{◌≡◌, ◌⊎◌, ◌≤◌, ◌&&◌, ◌==◌, arith, inl, inr, ℕ, Bool, true, false, cond, List, refl, sym, ap, subst, is_none, IsTrue, Ok, Err, None, Some, Option, Vec}
 use Rattle.std.specs.declared.alloc.Global.{Global}
 use Rattle.bec_bytes.specs.Causes.{Rose}
 use Rattle.bec_disk.specs.Shelf.{ShelfState}
@@ -16,7 +16,7 @@ use Rattle.log_texts.specs.declared.entry.Entry.{Entry}
 use Rattle.log_texts.specs.declared.style.Style.{Style}
 use Rattle.look_commands.specs.Bundles.{BundleLacks, BundleRefused, BundleShown, lacks, refused, refuses, shows, stopped}
 use Rattle.look_commands.specs.Differences.{HasEntries, LacksSide, ListsSide, ShowsDifference, differ, lacks_first, lacks_second, no_bundle, no_store, of_bundle, of_store}
-use Rattle.look_commands.specs.Ending.{lacks_one, status_with}
+use Rattle.look_commands.specs.Ending.{status_with}
 use Rattle.look_commands.specs.Keys.{IsKeyEnd}
 use Rattle.look_commands.specs.Looks.{LookComes, LooksAt, ShowsMembers, ShowsStore}
 use Rattle.look_commands.specs.Queries.{AnswersQuery, answers, faulted}

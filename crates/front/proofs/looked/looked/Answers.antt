@@ -1,4 +1,3 @@
-use Rattle.std.proofs.Common.{refl}
 use Rattle.front.proofs.looked.looked.Goals as goal
 
 pub returns : goal.returns
